@@ -1,0 +1,4 @@
+pub mod Rose
+pub mod Pull
+pub mod MemorySource
+pub mod MemoryStation

@@ -1,0 +1,96 @@
+ghost use Rattle.std.specs.Prelude.{◌≡◌, [], IfOk};
+
+use crate::station::{Failed, Station, Which};
+use pk_values::Memory;
+use std::alloc::Global;
+
+/// A station in memory, for tests. It tells what its sink has taken.
+#[derive(Debug, Drop)]
+pub struct MemoryStation {
+    log: Vec<u8>,
+    pages: Vec<u8>,
+    told: Vec<u8>,
+    failing: Vec<u64>,
+    calls: u64,
+    sink_faults: u64,
+}
+
+impl MemoryStation {
+    ghost use Rattle.pk_world.specs.MemoryStation.{taken, file_of, failing_calls, call_count, sink_fault_count};
+
+    /// A station over these two files that has told nothing. The calls whose numbers, counted from 1,
+    /// stand in `failing` fail.
+    pub fn new(
+        alloc: Global,
+        log: &[u8],
+        pages: &[u8],
+        failing: &[u64],
+    ) -> Result<MemoryStation, Memory>
+        ensures told { IfOk result (λ s. taken s ≡ []) }
+        ensures log { IfOk result (λ s. file_of s Which.Log ≡ log.now) }
+        ensures pages { IfOk result (λ s. file_of s Which.Pages ≡ pages.now) }
+        ensures failing { IfOk result (λ s. failing_calls s ≡ failing.now) }
+        ensures calls { IfOk result (λ s. call_count s ≡ 0) }
+        ensures faults { IfOk result (λ s. sink_fault_count s ≡ 0) }
+    {
+        Ok(MemoryStation {
+            log: Vec::from_slice(alloc, log)?,
+            pages: Vec::from_slice(alloc, pages)?,
+            told: Vec::new(alloc),
+            failing: Vec::from_slice(alloc, failing)?,
+            calls: 0,
+            sink_faults: 0,
+        })
+    }
+
+    /// The bytes of a file.
+    pub fn file(&self, which: Which) -> &[u8]
+        ensures { result.now ≡ file_of self.now which }
+    {
+        match which {
+            Which::Log => self.log.as_slice(),
+            Which::Pages => self.pages.as_slice(),
+        }
+    }
+
+    /// The bytes that the sink has taken.
+    pub fn told(&self) -> &[u8]
+        ensures { result.now ≡ taken self.now }
+    {
+        self.told.as_slice()
+    }
+
+    /// How many calls the station has had, up to the greatest u64.
+    pub fn calls(&self) -> u64
+        ensures { result ≡ call_count self.now }
+    {
+        self.calls
+    }
+
+    /// How many calls of `tell` have failed.
+    pub fn sink_faults(&self) -> u64
+        ensures { result ≡ sink_fault_count self.now }
+    {
+        self.sink_faults
+    }
+}
+
+impl Station for MemoryStation {
+    ghost use Rattle.std.specs.Prelude.{true};
+    ghost use Rattle.pk_world.specs.MemoryStation.{taken, sink_fault_count};
+
+    ghost tells = { λ _. true };
+
+    ghost told = { taken };
+
+    ghost sink_faults = { sink_fault_count };
+
+    fn tell(&mut self, bytes: &[u8]) -> Result<(), Failed> {
+        self.calls = self.calls.saturating_add(1);
+        if self.failing.contains(&self.calls) || self.told.extend_from_slice(bytes).is_err() {
+            self.sink_faults = self.sink_faults.saturating_add(1);
+            return Err(Failed);
+        }
+        Ok(())
+    }
+}
