@@ -1,0 +1,9 @@
+use Rattle.std.proofs.Common.{refl}
+use Rattle.pk_lex.specs.Symbols.{symbol_at}
+use Rattle.pk_lex.specs.Lexemes.{lexeme_at, more_at, lexemes}
+use Rattle.pk_lex.specs.Pieces.{pieces}
+use Rattle.pk_lex.proofs.laws.example_is_cut.Goals as goal
+
+pub returns : goal.returns
+unfolding symbol_at lexeme_at more_at lexemes pieces
+returns c = refl
