@@ -1,0 +1,34 @@
+use Rattle.std.specs.Prelude.{ℕ, List, [], ◌∷◌, length, Option, Some, None}
+use Rattle.std.proofs.Common.{suc, zero}
+use Rattle.pk_lex.specs.declared.token.Token.{Token}
+use Rattle.pk_lex.specs.declared.token.Symbol.TheVariants.{Comma, LeftParen, RightParen}
+use Rattle.pk_parse.specs.Tokens.{Found, ◌>>=◌, after_symbol}
+
+-- an item, and the items behind it
+abbrev pub item_then : {A : Type 0} → Found A → (List Token → Found (List A)) → Found (List A)
+item_then found more = do
+  x ← found
+  xs ← more x.1
+  Some (x.0 ∷ xs.0, xs.1)
+
+-- behind a comma, an item and what follows it; without one, nothing more
+abbrev pub comma_then : {A : Type 0} → Option (List Token) → List Token → (List Token → Found (List A)) → Found (List A)
+comma_then None tokens more = Some ([], tokens)
+comma_then (Some behind) tokens more = more behind
+
+-- items, each behind a comma, at most so many
+abbrev pub more_at : {A : Type 0} → (List Token → Found A) → ℕ → List Token → Found (List A)
+more_at item zero tokens = Some ([], tokens)
+more_at item (suc most) tokens = comma_then (after_symbol Comma tokens) tokens (λ behind. item_then (item behind) (more_at item most))
+
+-- at least one item, with commas between them
+unfoldable pub list_at : {A : Type 0} → (List Token → Found A) → List Token → Found (List A)
+list_at item tokens = item_then (item tokens) (λ behind. more_at item (length behind) behind)
+
+-- the same in parentheses
+unfoldable pub parens_at : {A : Type 0} → (List Token → Found A) → List Token → Found (List A)
+parens_at item tokens = do
+  inside ← after_symbol LeftParen tokens
+  found ← list_at item inside
+  behind ← after_symbol RightParen found.1
+  Some (found.0, behind)

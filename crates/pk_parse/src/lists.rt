@@ -1,0 +1,57 @@
+ghost use Rattle.std.specs.Prelude.{List};
+ghost use Rattle.pk_lex.specs.declared.token.Token.{Token as Entry};
+ghost use Rattle.pk_parse.specs.Reading.{Finds};
+ghost use Rattle.pk_parse.specs.Tokens.{Found};
+ghost use Rattle.pk_parse.specs.Lists.{list_at, parens_at};
+
+use crate::miss::Miss;
+use crate::tokens::{after_symbol, expect_symbol};
+use pk_lex::{Symbol, Token};
+use pk_values::Items;
+use std::alloc::Global;
+
+/// What may stand in a list with commas.
+pub(crate) trait Part: Drop {
+    /// The part at the front of the tokens, and the tokens behind it.
+    ghost at: { List Entry → Found Self };
+
+    /// Reads it.
+    fn read(alloc: Global, tokens: &[Token]) -> Result<(Self, &[Token]), Miss>
+        ensures { Finds result (at tokens.now) };
+}
+
+// At least one part, with commas between them, and the tokens behind the last.
+#[tactic(auto, unfolding(crate::specs::Lists::list_at))]
+pub(crate) fn list_of<T: Part>(
+    alloc: Global,
+    tokens: &[Token],
+) -> Result<(Items<T>, &[Token]), Miss>
+    ensures { Finds result (list_at T.at tokens.now) }
+{
+    let (first, mut rest) = T::read(alloc, tokens)?;
+    let mut parts = Vec::new(alloc);
+    parts.push(first)?;
+    for _ in 0..rest.len() {
+        let Some(behind) = after_symbol(Symbol::Comma, rest) else {
+            break;
+        };
+        let (part, behind) = T::read(alloc, behind)?;
+        parts.push(part)?;
+        rest = behind;
+    }
+    Ok((Items::from_vec(parts), rest))
+}
+
+// The same in parentheses.
+#[tactic(auto, unfolding(crate::specs::Lists::parens_at))]
+pub(crate) fn parens_of<T: Part>(
+    alloc: Global,
+    tokens: &[Token],
+) -> Result<(Items<T>, &[Token]), Miss>
+    ensures { Finds result (parens_at T.at tokens.now) }
+{
+    let inside = expect_symbol(Symbol::LeftParen, tokens)?;
+    let (parts, behind) = list_of::<T>(alloc, inside)?;
+    let behind = expect_symbol(Symbol::RightParen, behind)?;
+    Ok((parts, behind))
+}
