@@ -1,0 +1,6 @@
+pub mod ListLemmas
+pub mod TableLemmas
+pub mod RefusalLemmas
+pub mod StandsLemmas
+pub mod ValidLemmas
+pub mod OrderLemmas

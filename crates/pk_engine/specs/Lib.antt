@@ -1,0 +1,7 @@
+pub mod Base
+pub mod Place
+pub mod State
+pub mod Plain
+pub mod Answer
+pub mod Stands
+pub mod Valid

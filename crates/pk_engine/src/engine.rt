@@ -1,0 +1,96 @@
+ghost use Rattle.std.specs.Prelude.{◌≡◌, IsTrue, IfOk, vec_len};
+
+use crate::table::Stored;
+use pk_parse::Statement;
+use pk_report::Reply;
+use pk_values::{Memory, Name};
+use std::alloc::Global;
+
+mod create;
+mod insert;
+mod refusals;
+mod select;
+
+/// The base, and the answers to statements over it.
+#[derive(Debug, Drop)]
+pub struct Engine {
+    alloc: Global,
+    commit: u64,
+    // In the byte order of their names.
+    tables: Vec<Stored>,
+    rows: u64,
+}
+
+impl Engine {
+    ghost use Rattle.std.specs.List.Sorted.{IsSearchInRange};
+    ghost use Rattle.std.specs.Option.{option_map};
+    ghost use Rattle.pk_engine.specs.Base.{empty_base, row_count, IsInNameOrder};
+    ghost use Rattle.pk_engine.specs.Place.{IsPlaceOf};
+    ghost use Rattle.pk_engine.specs.State.{State, started, current};
+    ghost use Rattle.pk_engine.specs.Answer.{answer, table_of};
+    ghost use Rattle.pk_engine.specs.Plain.{is_plain};
+    ghost use Rattle.pk_engine.specs.Stands.{StandsFor};
+
+    /// The engine of the empty base.
+    #[tactic(auto, using(crate::proofs::OrderLemmas::order_empty), unfolding(crate::specs::Stands::StandsFor, crate::specs::State::current, crate::specs::State::after))]
+    pub fn empty(alloc: Global) -> Engine
+        ensures { StandsFor result (started empty_base) }
+    {
+        Engine {
+            alloc,
+            commit: 0,
+            tables: Vec::new(alloc),
+            rows: 0,
+        }
+    }
+
+    /// Answers a statement. A refusal is a reply, and leaves the base as it was. After an `Err`
+    /// nothing is claimed of the engine.
+    #[tactic(auto, unfolding(crate::specs::Answer::answer, crate::specs::Plain::is_plain))]
+    pub fn step(&mut self, statement: &Statement) -> Result<Reply, Memory>
+        requires plain { IsTrue (is_plain statement.now) }
+        requires stands { (st : State) × StandsFor self.old st }
+        ensures reply { IfOk result (λ r. (st : State) → StandsFor self.old st → r ≡ (answer st statement.now).reply) }
+        ensures next { IfOk result (λ _. (st : State) → StandsFor self.old st → StandsFor self.new (answer st statement.now).next) }
+    {
+        match statement {
+            Statement::Create(declared) => self.create(declared),
+            Statement::Insert(insert) => self.insert(insert),
+            Statement::Select(select) => self.select(select),
+        }
+    }
+
+    /// How many commits the base has had.
+    #[tactic(auto, unfolding(crate::specs::Stands::StandsFor, crate::specs::State::current, crate::specs::State::after))]
+    pub fn commit_number(&self) -> u64
+        ensures { (st : State) → StandsFor self.now st → result ≡ (current st).commit }
+    {
+        self.commit
+    }
+
+    /// How many rows the tables of the base have together.
+    #[tactic(auto, unfolding(crate::specs::Stands::StandsFor, crate::specs::State::current, crate::specs::State::after))]
+    pub fn row_count(&self) -> u64
+        ensures { (st : State) → StandsFor self.now st → result ≡ row_count (current st) }
+    {
+        self.rows
+    }
+
+    // The place of the table of this name, or else the one where a table of this name goes.
+    fn place_of(&self, name: &Name) -> Result<usize, usize>
+        ensures within { IsSearchInRange result (vec_len self.now.tables) }
+        ensures place { IsInNameOrder self.now.tables.items → IsPlaceOf name.now self.now.tables.items result }
+    {
+        self.tables.binary_search_by(|table| table.cmp_name(name))
+    }
+
+    // The table of this name.
+    fn table(&self, name: &Name) -> Option<&Stored>
+        ensures { (st : State) → StandsFor self.now st → option_map (λ t. t.now) result ≡ table_of st name.now }
+    {
+        match self.place_of(name) {
+            Ok(place) => Some(&self.tables[place]),
+            Err(_) => None,
+        }
+    }
+}
