@@ -1,0 +1,2 @@
+pub mod ServedIsPlain
+pub mod Runs

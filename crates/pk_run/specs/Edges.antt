@@ -1,0 +1,80 @@
+use Rattle.std.specs.Prelude.{◌≡◌, ℕ, ◌-◌, ◌^◌, true, false, List, [], ◌∷◌, ◌++◌, codes, Some, None}
+use Rattle.pk_values.specs.Name.{name_of}
+use Rattle.pk_values.specs.declared.refusal.Refusal.TheVariants.{ValueCount}
+use Rattle.pk_lex.specs.declared.token.Token.TheVariants.{Word, Number, Symbol as Sign}
+use Rattle.pk_lex.specs.declared.token.Symbol.TheVariants.{AtMost, UnequalAngle, Minus}
+use Rattle.pk_lex.specs.declared.piece.Body.TheVariants.{Tokens, BadCharacter}
+use Rattle.pk_lex.specs.Symbols.{symbol_at}
+use Rattle.pk_lex.specs.Pieces.{pieces}
+use Rattle.pk_parse.specs.Tokens.{number_of}
+use Rattle.pk_report.specs.declared.reply.Reply.TheVariants.{Inserted, Selected, Refused}
+use Rattle.pk_report.specs.Text.{text}
+use Rattle.pk_engine.specs.Base.{empty_base}
+use Rattle.pk_run.specs.Words.{is_plain_form}
+use Rattle.pk_run.specs.Told.{told}
+use Rattle.pk_run.specs.Example.{lines}
+
+-- names: the empty word, a digit first, capitals and `_`
+pub record NamesAtTheirEdges : Type 0 where
+  pub empty : name_of [] ≡ None
+  pub digit_first : name_of (codes "1a") ≡ None
+  pub folded : name_of (codes "_Z9") ≡ Some (codes "_z9")
+
+-- symbols: the longer of two, the longest three bytes could be, and half of one
+pub record SymbolsAtTheirEdges : Type 0 where
+  pub longer : symbol_at (codes "<=") ≡ Some AtMost
+  pub no_longer : symbol_at (codes "<>=") ≡ Some UnequalAngle
+  pub half : symbol_at (codes "!a") ≡ None
+
+-- pieces: none at all, the last without a semicolon, two faults on two lines behind a token on a third
+pub record PiecesAtTheirEdges : Type 0 where
+  pub none : pieces (codes " ;;; ") ≡ []
+  pub last : pieces (codes "a") ≡ record { line = 1; body = Tokens (Word (codes "a") ∷ []) } ∷ []
+  pub run_on : pieces (codes "1AND--") ≡ record { line = 1; body = Tokens (Number (codes "1") ∷ Word (codes "and") ∷ Sign Minus ∷ Sign Minus ∷ []) } ∷ []
+  pub faults : pieces (10 ∷ codes "a" ++ 10 ∷ codes "$" ++ 13 ∷ 10 ∷ codes "'") ≡ record { line = 2; body = BadCharacter 3 } ∷ []
+
+-- numbers: no digit, leading zeros, and the largest of 64 bits
+pub record NumbersAtTheirEdges : Type 0 where
+  pub zero : number_of (codes "0") ≡ 0
+  pub leading : number_of (codes "00000000000000000000000000000000000000007") ≡ 7
+  pub largest : number_of (codes "9223372036854775807") ≡ 2 ^ 63 - 1
+
+-- replies: no row, the largest count, and the least number
+pub record RepliesAtTheirEdges : Type 0 where
+  pub no_row : text (Selected (codes "a" ∷ []) []) ≡ lines (codes "a" ∷ codes "rows 0" ∷ [])
+  pub largest : text (Inserted (2 ^ 64 - 1)) ≡ lines (codes "inserted 18446744073709551615" ∷ [])
+  pub counts : text (Refused (ValueCount 0 32)) ≡ lines (codes "refused: 0 values for 32 columns" ∷ [])
+
+-- words: none, the form, the form twice
+pub record WordsAtTheirEdges : Type 0 where
+  pub none : is_plain_form [] ≡ false
+  pub form : is_plain_form (codes "memory" ∷ []) ≡ true
+  pub twice : is_plain_form (codes "memory" ∷ codes "memory" ∷ []) ≡ false
+  pub case : is_plain_form (codes "Memory" ∷ []) ≡ false
+
+-- what a script is told, from the empty base
+abbrev pub Tells : List ℕ → List (List ℕ) → Type 0
+Tells script replies = told empty_base script ≡ lines replies
+
+-- whole runs: nothing to do, two causes at once, the last piece unfinished, numbers at and past the end
+pub record RunsAtTheirEdges : Type 0 where
+  pub empty : Tells [] []
+  pub blank : Tells (codes " ; " ++ 10 ∷ []) []
+  pub no_table_first : Tells (codes "INSERT INTO u VALUES (1, 2)") (codes "refused: no table u" ∷ [])
+  pub exists : Tells (codes "CREATE TABLE t (a INTEGER); CREATE TABLE T (b INTEGER); SELECT * FROM t") (codes "created t" ∷ codes "refused: table t exists" ∷ codes "a" ∷ codes "rows 0" ∷ [])
+  pub counted : Tells (codes "CREATE TABLE t (a INTEGER, b INTEGER); INSERT INTO t VALUES (1); INSERT INTO t VALUES (1, 2, 3)") (codes "created t" ∷ codes "refused: 1 values for 2 columns" ∷ codes "refused: 3 values for 2 columns" ∷ [])
+  pub unserved_first : Tells (codes "INSERT INTO u VALUES (1), (2)") (codes "refused: not a statement on line 1" ∷ [])
+  pub twice_named : Tells (codes "CREATE TABLE t (a INTEGER, b INTEGER, a INTEGER)") (codes "refused: not a statement on line 1" ∷ [])
+  pub past_64_bits : Tells (codes "CREATE TABLE t (a INTEGER); INSERT INTO t VALUES (9223372036854775808); INSERT INTO t VALUES (9223372036854775807); SELECT * FROM t") (codes "created t" ∷ codes "refused: not a statement on line 1" ∷ codes "inserted 1" ∷ codes "a" ∷ codes "9223372036854775807" ∷ codes "rows 1" ∷ [])
+  pub ordered : Tells (codes "CREATE TABLE b (x INTEGER); CREATE TABLE a (y INTEGER); INSERT INTO b VALUES (1); INSERT INTO b VALUES (2); SELECT * FROM b; SELECT * FROM a") (codes "created b" ∷ codes "created a" ∷ codes "inserted 1" ∷ codes "inserted 1" ∷ codes "x" ∷ codes "1" ∷ codes "2" ∷ codes "rows 2" ∷ codes "y" ∷ codes "rows 0" ∷ [])
+  pub unfinished : Tells (codes "SELECT * FROM t" ++ 10 ∷ codes ";" ++ 10 ∷ codes "SELECT *") (codes "refused: no table t" ∷ codes "refused: not a statement on line 3" ∷ [])
+
+-- the definitions at their edges
+pub record EdgesAreTold : Type 0 where
+  pub names : NamesAtTheirEdges
+  pub symbols : SymbolsAtTheirEdges
+  pub piece_edges : PiecesAtTheirEdges
+  pub numbers : NumbersAtTheirEdges
+  pub replies : RepliesAtTheirEdges
+  pub words : WordsAtTheirEdges
+  pub runs : RunsAtTheirEdges

@@ -1,0 +1,7 @@
+pub mod Words
+pub mod Status
+pub mod Served
+pub mod Told
+pub mod Laws
+pub mod Example
+pub mod Edges

@@ -1,0 +1,59 @@
+use Rattle.std.specs.Prelude.{◌≡◌, ℕ, Bool, true, false, List, [], ◌∷◌, ◌++◌, Result, Ok, Err, if◌then◌else◌}
+use Rattle.std.specs.List.{flat_map, list_any}
+use Rattle.pk_values.specs.declared.refusal.Refusal.{Refusal}
+use Rattle.pk_values.specs.declared.refusal.Refusal.TheVariants.{NotStatement}
+use Rattle.pk_lex.specs.declared.piece.Piece.{Piece}
+use Rattle.pk_lex.specs.Pieces.{pieces}
+use Rattle.pk_parse.specs.declared.statement.Statement.{Statement}
+use Rattle.pk_parse.specs.Parsed.{parsed}
+use Rattle.pk_report.specs.declared.reply.Reply.{Reply}
+use Rattle.pk_report.specs.declared.reply.Reply.TheVariants.{Created, Inserted, Selected, Refused}
+use Rattle.pk_report.specs.Text.{text}
+use Rattle.pk_engine.specs.Base.{Base}
+use Rattle.pk_engine.specs.State.{State, started}
+use Rattle.pk_engine.specs.Answer.{Step, answer}
+use Rattle.pk_run.specs.Served.{is_served}
+
+-- a refusal, and the state as it was
+abbrev pub refused : State → Refusal → Step
+refused st r = record { reply = Refused r; next = st }
+
+-- the answer to what a piece on this line says
+abbrev pub answer_to : State → ℕ → Result Statement Refusal → Step
+answer_to st line (Ok s) = if is_served s then answer st s else refused st (NotStatement line)
+answer_to st line (Err r) = refused st r
+
+-- the answer to a piece
+unfoldable pub step : State → Piece → Step
+step st piece = answer_to st piece.line (parsed piece)
+
+-- the answers to the pieces, one behind the other
+abbrev pub run : State → List Piece → List Step
+run st [] = []
+run st (piece ∷ pieces) = step st piece ∷ run (step st piece).next pieces
+
+-- the bytes that tell the replies
+abbrev pub told_by : List Step → List ℕ
+told_by steps = flat_map (λ s. text s.reply) steps
+
+-- what a whole run over a script tells, from this base on
+unfoldable pub told : Base → List ℕ → List ℕ
+told b script = told_by (run (started b) (pieces script))
+
+abbrev pub is_refusal : Reply → Bool
+is_refusal (Refused r) = true
+is_refusal (Created table) = false
+is_refusal (Inserted n) = false
+is_refusal (Selected header rows) = false
+
+-- some reply is a refusal
+abbrev pub has_refusal : List Step → Bool
+has_refusal steps = list_any (λ s. is_refusal s.reply) steps
+
+-- some reply of a whole run is a refusal
+unfoldable pub is_refused : Base → List ℕ → Bool
+is_refused b script = has_refusal (run (started b) (pieces script))
+
+-- behind the old bytes the new ones have a front of the whole
+abbrev pub TellsFront : List ℕ → List ℕ → List ℕ → Type 0
+TellsFront old new whole = (front : List ℕ) × (behind : List ℕ) × (new ≡ old ++ front) × (whole ≡ front ++ behind)

@@ -1,0 +1,20 @@
+//! The run of the program, from script bytes to reply bytes: `run_keytab`, and how it ends.
+//!
+//! Its clauses speak of `told`, the bytes that a machine of plain lists tells for a script, which
+//! `specs/Told.antt` defines over the definitions of the crates below.
+#![tactic(auto)]
+
+mod laws;
+mod running;
+mod scripts;
+mod serving;
+mod status;
+mod top;
+
+pub use laws::{edges_are_told, example_is_told, refusals_change_nothing, runs_in_halves};
+pub use serving::served;
+pub use status::Status;
+pub use top::run_keytab;
+
+#[cfg(test)]
+mod tests;

@@ -1,0 +1,125 @@
+ghost use Rattle.std.specs.Prelude.{◌≡◌, ◌++◌, ◌≤◌, ◌||◌, IsTrue, IfOk, IsErrOf};
+ghost use Rattle.pk_world.specs.Rose.{Rose};
+ghost use Rattle.pk_engine.specs.State.{State};
+ghost use Rattle.pk_engine.specs.Stands.{StandsFor};
+ghost use Rattle.pk_report.specs.Text.{text};
+ghost use Rattle.pk_run.specs.Told.{step, run, told_by, is_refusal, has_refusal, TellsFront};
+
+use crate::serving::served;
+use pk_engine::Engine;
+use pk_lex::Piece;
+use pk_parse::{ParseErr, parse};
+use pk_report::{Reply, reply_text};
+use pk_values::{Memory, Refusal};
+use pk_world::{Failed, Station};
+use std::alloc::Global;
+
+/// Why a run stopped before its end.
+#[derive(Clone, Copy, Debug, PartialEq, Eq)]
+pub enum RunErr {
+    /// The sink failed.
+    Fault,
+    /// Memory ran out.
+    OutOfMemory,
+}
+
+impl From<Memory> for RunErr {
+    ghost use Rattle.pk_run.specs.declared.running.RunErr.TheVariants.{OutOfMemory};
+
+    ghost from_gives = { λ _ e. e ≡ OutOfMemory };
+
+    fn from(_error: Memory) -> RunErr {
+        RunErr::OutOfMemory
+    }
+}
+
+impl From<Failed> for RunErr {
+    ghost use Rattle.pk_run.specs.declared.running.RunErr.TheVariants.{Fault};
+
+    ghost from_gives = { λ _ e. e ≡ Fault };
+
+    fn from(_error: Failed) -> RunErr {
+        RunErr::Fault
+    }
+}
+
+/// Answers the pieces one by one, and tells each reply before the next piece is answered. At `Ok` it
+/// says whether some reply is a refusal.
+pub fn run_pieces<W: Station>(
+    alloc: Global,
+    engine: &mut Engine,
+    pieces: &[Piece],
+    station: &mut W,
+) -> Result<bool, RunErr>
+    requires { (st : State) × StandsFor engine.old st }
+    ensures whole { IfOk result (λ _. (st : State) → StandsFor engine.old st → IsTrue (W.tells station.old) → W.told station.new ≡ W.told station.old ++ told_by (run st pieces.now)) }
+    ensures refused { IfOk result (λ refused. (st : State) → StandsFor engine.old st → refused ≡ has_refusal (run st pieces.now)) }
+    ensures front { (st : State) → StandsFor engine.old st → IsTrue (W.tells station.old) → TellsFront (W.told station.old) (W.told station.new) (told_by (run st pieces.now)) }
+    ensures tells { W.tells station.new ≡ W.tells station.old }
+    ensures cause { IsErrOf result RunErr.Fault → Rose (W.sink_faults station.old) (W.sink_faults station.new) }
+    ensures count { W.sink_faults station.old ≤ W.sink_faults station.new }
+{
+    let mut refused = false;
+    for piece in pieces {
+        let is_refused = answer_and_tell(alloc, engine, piece, station)?;
+        refused = refused || is_refused;
+    }
+    Ok(refused)
+}
+
+// Answers a piece and tells the reply. At `Ok` it says whether the reply is a refusal.
+fn answer_and_tell<W: Station>(
+    alloc: Global,
+    engine: &mut Engine,
+    piece: &Piece,
+    station: &mut W,
+) -> Result<bool, RunErr>
+    requires { (st : State) × StandsFor engine.old st }
+    ensures told { IfOk result (λ _. (st : State) → StandsFor engine.old st → IsTrue (W.tells station.old) → W.told station.new ≡ W.told station.old ++ text (step st piece.now).reply) }
+    ensures refused { IfOk result (λ refused. (st : State) → StandsFor engine.old st → refused ≡ is_refusal (step st piece.now).reply) }
+    ensures next { IfOk result (λ _. (st : State) → StandsFor engine.old st → StandsFor engine.new (step st piece.now).next) }
+    ensures front { (st : State) → StandsFor engine.old st → IsTrue (W.tells station.old) → TellsFront (W.told station.old) (W.told station.new) (text (step st piece.now).reply) }
+    ensures tells { W.tells station.new ≡ W.tells station.old }
+    ensures cause { IsErrOf result RunErr.Fault → Rose (W.sink_faults station.old) (W.sink_faults station.new) }
+    ensures count { W.sink_faults station.old ≤ W.sink_faults station.new }
+{
+    let reply = answer_piece(alloc, engine, piece)?;
+    let text = reply_text(alloc, &reply)?;
+    station.tell(&text)?;
+    Ok(is_refusal(&reply))
+}
+
+// The reply to a piece. After an `Err` nothing is claimed of the engine.
+#[tactic(auto, using(crate::proofs::ServedIsPlain::plain_when_served), unfolding(crate::specs::Told::step))]
+fn answer_piece(alloc: Global, engine: &mut Engine, piece: &Piece) -> Result<Reply, Memory>
+    requires { (st : State) × StandsFor engine.old st }
+    ensures reply { IfOk result (λ r. (st : State) → StandsFor engine.old st → r ≡ (step st piece.now).reply) }
+    ensures next { IfOk result (λ _. (st : State) → StandsFor engine.old st → StandsFor engine.new (step st piece.now).next) }
+{
+    match parse(alloc, piece) {
+        Ok(statement) => {
+            if served(&statement) {
+                engine.step(&statement)
+            } else {
+                Ok(not_statement(piece.line))
+            }
+        }
+        Err(ParseErr::NotStatement { line }) => Ok(not_statement(line)),
+        Err(ParseErr::Memory) => Err(Memory),
+    }
+}
+
+fn not_statement(line: u64) -> Reply
+    ensures { result ≡ Reply.Refused (Refusal.NotStatement line) }
+{
+    Reply::Refused(Refusal::NotStatement { line })
+}
+
+fn is_refusal(reply: &Reply) -> bool
+    ensures { result ≡ is_refusal reply.now }
+{
+    match reply {
+        Reply::Refused(_) => true,
+        Reply::Created { .. } | Reply::Inserted { .. } | Reply::Selected { .. } => false,
+    }
+}

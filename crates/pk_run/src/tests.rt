@@ -1,0 +1,259 @@
+use super::*;
+use crate::scripts::MOST_SCRIPT;
+use pk_world::{MemorySource, MemoryStation, Pull, Source};
+use std::alloc::Global;
+use std::test::Fail;
+
+const FIRST: &[u8] =
+    b"CREATE TABLE t (a INTEGER, b INTEGER); INSERT INTO t VALUES (1, 2); SELECT * FROM t;";
+
+const FIRST_TOLD: &[u8] = b"created t\ninserted 1\na|b\n1|2\nrows 1\n";
+
+fn words(alloc: Global, words: &[&str]) -> Result<Vec<String>, Fail> {
+    let mut owned = Vec::new(alloc);
+    for word in words {
+        owned.push(String::from_str(alloc, word)?)?;
+    }
+    Ok(owned)
+}
+
+// A run in memory: the script comes in pieces of `step` bytes, and these pulls and tells fail.
+fn run(
+    alloc: Global,
+    script: &[u8],
+    step: usize,
+    pulls: &[u64],
+    tells: &[u64],
+) -> Result<(Status, Vec<u8>), Fail> {
+    let words = words(alloc, &["memory"])?;
+    let mut source = MemorySource::new(alloc, script, step.max(1), pulls)?;
+    let mut station = MemoryStation::new(alloc, b"", b"", tells)?;
+    let status = run_keytab(alloc, words.as_slice(), &mut source, &mut station);
+    Ok((status, Vec::from_slice(alloc, station.told())?))
+}
+
+#[test]
+fn scripts_are_answered(rt: HostRuntime) -> Result<(), Fail> {
+    let cases: [(&[u8], Status, &[u8]); 22] = [
+        (b"", Status::Done, b""),
+        (b" \t\r\n ;;\n; ", Status::Done, b""),
+        (FIRST, Status::Done, FIRST_TOLD),
+        (
+            b"create table T (A integer)\n;Insert Into t Values (007);select * from T",
+            Status::Done,
+            b"created t\ninserted 1\na\n7\nrows 1\n",
+        ),
+        (
+            b"CREATE TABLE t (a INTEGER); SELECT * FROM t;",
+            Status::Done,
+            b"created t\na\nrows 0\n",
+        ),
+        (
+            b"CREATE TABLE b (x INTEGER); CREATE TABLE a (y INTEGER); INSERT INTO b VALUES (1);\
+              INSERT INTO a VALUES (2); INSERT INTO b VALUES (3); SELECT * FROM a; SELECT * FROM b;",
+            Status::Done,
+            b"created b\ncreated a\ninserted 1\ninserted 1\ninserted 1\ny\n2\nrows 1\nx\n1\n3\nrows 2\n",
+        ),
+        (
+            b"INSERT INTO u VALUES (1);",
+            Status::Refused,
+            b"refused: no table u\n",
+        ),
+        (
+            b"CREATE TABLE t (a INTEGER); CREATE TABLE t (b INTEGER); SELECT * FROM t; SELECT * FROM u",
+            Status::Refused,
+            b"created t\nrefused: table t exists\na\nrows 0\nrefused: no table u\n",
+        ),
+        (
+            b"CREATE TABLE t (a INTEGER, b INTEGER); INSERT INTO t VALUES (1);\
+              INSERT INTO t VALUES (1, 2, 3); INSERT INTO t VALUES (4, 5); SELECT * FROM t;",
+            Status::Refused,
+            b"created t\nrefused: 1 values for 2 columns\nrefused: 3 values for 2 columns\ninserted 1\na|b\n4|5\nrows 1\n",
+        ),
+        (
+            b"\n\nfrom\n;\n  $;\n;SELECT *\nFROM t",
+            Status::Refused,
+            b"refused: not a statement on line 3\nrefused: not a statement on line 5\nrefused: no table t\n",
+        ),
+        (
+            b"CREATE TABLE t (a INT);",
+            Status::Refused,
+            b"refused: not a statement on line 1\n",
+        ),
+        (
+            b"CREATE TABLE t (a INTEGER, a INTEGER);",
+            Status::Refused,
+            b"refused: not a statement on line 1\n",
+        ),
+        (
+            b"CREATE TABLE select (a INTEGER);",
+            Status::Refused,
+            b"refused: not a statement on line 1\n",
+        ),
+        (
+            b"CREATE TABLE t ();",
+            Status::Refused,
+            b"refused: not a statement on line 1\n",
+        ),
+        (
+            b"CREATE TABLE t (a INTEGER); INSERT INTO t VALUES (1), (2);",
+            Status::Refused,
+            b"created t\nrefused: not a statement on line 1\n",
+        ),
+        (
+            b"CREATE TABLE t (a INTEGER); INSERT INTO t VALUES (-1);",
+            Status::Refused,
+            b"created t\nrefused: not a statement on line 1\n",
+        ),
+        (
+            b"CREATE TABLE t (a INTEGER); INSERT INTO t VALUES (9223372036854775807); SELECT * FROM t",
+            Status::Done,
+            b"created t\ninserted 1\na\n9223372036854775807\nrows 1\n",
+        ),
+        (
+            b"CREATE TABLE t (a INTEGER); INSERT INTO t VALUES (9223372036854775808);",
+            Status::Refused,
+            b"created t\nrefused: not a statement on line 1\n",
+        ),
+        (
+            b"CREATE TABLE a23456789012345678901234567890 (a INTEGER);",
+            Status::Done,
+            b"created a23456789012345678901234567890\n",
+        ),
+        (
+            b"CREATE TABLE a234567890123456789012345678901 (a INTEGER);",
+            Status::Refused,
+            b"refused: not a statement on line 1\n",
+        ),
+        (
+            b"CREATE TABLE t (a234567890123456789012345678901 INTEGER);",
+            Status::Refused,
+            b"refused: not a statement on line 1\n",
+        ),
+        (
+            b"SELECT * FROM t;\nSELECT * FROM\nt; SELECT * t",
+            Status::Refused,
+            b"refused: no table t\nrefused: no table t\nrefused: not a statement on line 3\n",
+        ),
+    ];
+    for (script, status, told) in cases {
+        let got = run(rt.alloc(), script, 4096, &[], &[])?;
+        assert_eq!(rt; got.0, status, "at {script:?}");
+        assert_eq!(rt; got.1.as_slice(), told);
+    }
+    Ok(())
+}
+
+// CREATE TABLE with so many columns.
+fn wide(alloc: Global, columns: u32) -> Result<Vec<u8>, Fail> {
+    let mut script = b"CREATE TABLE t (c0 INTEGER".to_vec(alloc)?;
+    for c in 1..columns {
+        script.extend_from_slice(format!(in alloc; ", c{c} INTEGER")?.as_bytes())?;
+    }
+    script.extend_from_slice(b")")?;
+    Ok(script)
+}
+
+#[test]
+fn a_table_has_at_most_32_columns(rt: HostRuntime) -> Result<(), Fail> {
+    let alloc = rt.alloc();
+    let most = run(alloc, &wide(alloc, 32)?, 4096, &[], &[])?;
+    assert_eq!(rt; most.0, Status::Done);
+    assert_eq!(rt; most.1.as_slice(), b"created t\n".as_slice());
+    let more = run(alloc, &wide(alloc, 33)?, 4096, &[], &[])?;
+    assert_eq!(rt; more.0, Status::Refused);
+    assert_eq!(rt;
+        more.1.as_slice(),
+        b"refused: not a statement on line 1\n".as_slice()
+    );
+    Ok(())
+}
+
+// The script of a row.
+#[derive(Clone, Copy, Debug)]
+enum Script {
+    First,
+    Blanks(usize),
+    /// The first script with blanks behind it, so many bytes in all.
+    Padded(usize),
+}
+
+fn bytes_of(alloc: Global, script: Script) -> Result<Vec<u8>, Fail> {
+    let (front, length) = match script {
+        Script::First => (FIRST, FIRST.len()),
+        Script::Blanks(length) => (b"".as_slice(), length),
+        Script::Padded(length) => (FIRST, length),
+    };
+    let mut bytes = Vec::with_capacity(alloc, length)?;
+    bytes.extend_from_slice(front)?;
+    for _ in front.len()..length {
+        bytes.push(b' ')?;
+    }
+    Ok(bytes)
+}
+
+// A script that comes so many bytes at a time; the pull and the tell that fail, 0 for none; and how it
+// ends, with so many bytes of the first script's replies.
+type Case = (Script, usize, u64, u64, Status, usize);
+
+fn cases(alloc: Global) -> Result<Vec<Case>, Fail> {
+    let whole = FIRST_TOLD.len();
+    let mut cases = Vec::new(alloc);
+    for step in [1, 7, 4096] {
+        cases.push((Script::First, step, 0, 0, Status::Done, whole))?;
+    }
+    // At 7 bytes a time the first script takes 12 pulls, and one more for its end.
+    for pull in 1..=13 {
+        cases.push((Script::First, 7, pull, 0, Status::ScriptFault, 0))?;
+    }
+    cases.push((Script::First, 7, 14, 0, Status::Done, whole))?;
+    for (tell, told) in [(1, 0), (2, 10), (3, 21)] {
+        cases.push((Script::First, 7, 0, tell, Status::ReplyFault, told))?;
+    }
+    cases.push((Script::First, 7, 0, 4, Status::Done, whole))?;
+    let most = MOST_SCRIPT;
+    cases.push((Script::Blanks(most), 65536, 0, 0, Status::Done, 0))?;
+    cases.push((Script::Blanks(most + 1), 65536, 0, 0, Status::LongScript, 0))?;
+    cases.push((Script::Padded(most), 65536, 0, 0, Status::Done, whole))?;
+    cases.push((Script::Padded(most + 1), 65536, 0, 0, Status::LongScript, 0))?;
+    Ok(cases)
+}
+
+#[test]
+fn cuts_faults_and_lengths_leave_a_front(rt: HostRuntime) -> Result<(), Fail> {
+    let alloc = rt.alloc();
+    let cases = cases(alloc)?;
+    for (script, step, pull, tell, status, told) in cases {
+        let bytes = bytes_of(alloc, script)?;
+        let got = run(alloc, &bytes, step, &[pull], &[tell])?;
+        let case = (script, step, pull, tell);
+        assert_eq!(rt; got.0, status, "at {case:?}");
+        let want = &FIRST_TOLD[..told.min(FIRST_TOLD.len())];
+        assert_eq!(rt; got.1.as_slice(), want, "at {case:?}");
+    }
+    Ok(())
+}
+
+#[test]
+fn other_words_read_and_write_nothing(rt: HostRuntime) -> Result<(), Fail> {
+    let alloc = rt.alloc();
+    let cases: [&[&str]; 6] = [
+        &[],
+        &["run"],
+        &["memory", "memory"],
+        &["Memory"],
+        &["memory "],
+        &["generate", "1"],
+    ];
+    for case in cases {
+        let words = words(alloc, case)?;
+        let mut source = MemorySource::new(alloc, FIRST, 100, &[])?;
+        let mut station = MemoryStation::new(alloc, b"", b"", &[])?;
+        let status = run_keytab(alloc, words.as_slice(), &mut source, &mut station);
+        assert_eq!(rt; status, Status::Usage, "at {case:?}");
+        assert_eq!(rt; station.calls(), 0);
+        let mut room = [0u8; 100];
+        assert_eq!(rt; source.pull(&mut room), Pull::Got(FIRST.len()));
+    }
+    Ok(())
+}
