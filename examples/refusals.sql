@@ -1,0 +1,7 @@
+CREATE TABLE parts (id INTEGER, weight INTEGER);
+CREATE TABLE parts (id INTEGER);
+INSERT INTO parts VALUES (1);
+INSERT INTO part VALUES (1, 20);
+INSERT parts (1, 20);
+INSERT INTO parts VALUES (1, 20);
+SELECT * FROM parts;
