@@ -39,8 +39,9 @@ pub fn run_keytab<S: Source, W: Station>(
     ensures usage { (result ≡ Status.Usage) ↔ (is_plain_form (map string_bytes words.now) ≡ false) }
     ensures usage_untouched { result ≡ Status.Usage → (script.new ≡ script.old) × (station.new ≡ station.old) }
 
-    // The outside failed.
+    // The outside failed; where the source did, nothing is told.
     ensures script_fault { result ≡ Status.ScriptFault → Rose (S.faults script.old) (S.faults script.new) }
+    ensures script_fault_untold { result ≡ Status.ScriptFault → station.new ≡ station.old }
     ensures reply_fault { result ≡ Status.ReplyFault → Rose (W.sink_faults station.old) (W.sink_faults station.new) }
 
     // The script is too long, and nothing is told; one that is too long is never run.
