@@ -25,3 +25,9 @@ abbrev pub UnlessGot : Pull → Type 0 → Type 0
 UnlessGot (Got n) P = Unit {0}
 UnlessGot End P = P
 UnlessGot Failed P = P
+
+-- a fact for bytes and for the end
+abbrev pub UnlessFailed : Pull → Type 0 → Type 0
+UnlessFailed (Got n) P = P
+UnlessFailed End P = P
+UnlessFailed Failed P = Unit {0}

@@ -12,7 +12,7 @@ pub enum Pull {
 /// Where a script comes from, a few bytes at a time.
 pub trait Source {
     ghost use Rattle.std.specs.Prelude.{◌≡◌, ℕ, ◌<◌, ◌≤◌, Bool, IsTrue, List, [], ◌++◌, length, take, drop};
-    ghost use Rattle.pk_world.specs.Pull.{IfGot, OnEnd, OnFailed, UnlessGot};
+    ghost use Rattle.pk_world.specs.Pull.{IfGot, OnEnd, OnFailed, UnlessGot, UnlessFailed};
     ghost use Rattle.pk_world.specs.Rose.{Rose};
 
     /// Whether it tells which bytes it still has.
@@ -27,7 +27,8 @@ pub trait Source {
     /// Puts the next bytes to the front of `room`, and leaves the room behind them as it was.
     fn pull(&mut self, room: &mut [u8]) -> Pull
         requires { 0 < length room.old }
-        ensures tells { tells self.new ≡ tells self.old }
+        // One that tells its bytes goes on to tell them.
+        ensures tells { IsTrue (tells self.old) → IsTrue (tells self.new) }
 
         // How many bytes came, and which.
         ensures some { IfGot result (λ n. 0 < n) }
@@ -37,8 +38,11 @@ pub trait Source {
 
         // The end comes where nothing is left; nothing changes there and at a fault.
         ensures end { OnEnd result (IsTrue (tells self.old) → rest self.old ≡ []) }
-        ensures stays { UnlessGot result ((rest self.new ≡ rest self.old) × (room.new ≡ room.old)) }
+        ensures stays { UnlessGot result (IsTrue (tells self.old) → rest self.new ≡ rest self.old) }
+        ensures room { UnlessGot result (room.new ≡ room.old) }
 
+        // A fault is counted, and nothing else is.
         ensures count { faults self.old ≤ faults self.new }
+        ensures unfailed { UnlessFailed result (faults self.new ≡ faults self.old) }
         ensures cause { OnFailed result (Rose (faults self.old) (faults self.new)) };
 }

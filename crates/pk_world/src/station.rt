@@ -26,9 +26,13 @@ pub trait Station {
     /// Hands bytes to the sink. `Failed` comes only where the count of the sink's faults rose, and then
     /// the sink may have taken a part of the bytes, from the front.
     fn tell(&mut self, bytes: &[u8]) -> Result<(), Failed>
-        ensures tells { tells self.new ≡ tells self.old }
+        // One that tells its bytes goes on to tell them.
+        ensures tells { IsTrue (tells self.old) → IsTrue (tells self.new) }
         ensures ok { OnOk result (IsTrue (tells self.old) → told self.new ≡ told self.old ++ bytes.now) }
         ensures err { IsTrue (tells self.old) → (n : ℕ) × (n ≤ length bytes.now) × (told self.new ≡ told self.old ++ take n bytes.now) }
+
+        // A fault is counted, and nothing else is.
         ensures count { sink_faults self.old ≤ sink_faults self.new }
+        ensures unfailed { OnOk result (sink_faults self.new ≡ sink_faults self.old) }
         ensures cause { OnErr result (Rose (sink_faults self.old) (sink_faults self.new)) };
 }
