@@ -1,2 +1,3 @@
 pub mod ServedIsPlain
 pub mod Runs
+pub mod Shown

@@ -1,4 +1,4 @@
-use Rattle.std.proofs.Common.{◌≡◌, ℕ, ◌+◌, ◌<◌, ◌||◌, List, [], ◌∷◌, ◌++◌, length, get_or, take, drop, refl, sym, ◌∙◌, ap, append_assoc}
+use Rattle.std.proofs.Common.{◌≡◌, ℕ, ◌+◌, ◌<◌, ◌||◌, List, [], ◌∷◌, ◌++◌, length, get_or, take, drop, Result, Ok, Err, refl, sym, ◌∙◌, ap, append_assoc}
 use Rattle.std.proofs.lemmas.List.{take-append-drop, append-nil, drop_more}
 use Rattle.pk_lex.specs.declared.piece.Piece.{Piece}
 use Rattle.pk_report.specs.Text.{text}
@@ -61,3 +61,7 @@ told_from now pieces i piece within is = ap (λ (ps : List Piece). told_by (run 
 pub refused_from : (now : State) (pieces : List Piece) (i : ℕ) (piece : Piece) → i < length pieces → piece ≡ get_or pieces i piece
     → has_refusal (run now (drop i pieces)) ≡ (is_refusal (step now piece).reply || has_refusal (run (step now piece).next (drop (i + 1) pieces)))
 refused_from now pieces i piece within is = ap (λ (ps : List Piece). has_refusal (run now ps)) (from_place pieces i piece within is)
+
+-- a run that goes on hasn't failed
+pub ok_is_no_fault : {T E : Type 0} (r : Result T E) (x : T) (e : E) → r ≡ Ok x → r ≡ Err e → ⊥
+ok_is_no_fault r x e ok err = cc

@@ -1,18 +1,43 @@
-use Rattle.std.specs.Prelude.{◌≡◌, ℕ, ◌-◌, ◌^◌, true, false, List, [], ◌∷◌, ◌++◌, codes, Some, None}
+use Rattle.std.specs.Prelude.{◌≡◌, ℕ, ◌-◌, ◌^◌, true, false, List, [], ◌∷◌, ◌++◌, length, codes, Some, None}
 use Rattle.pk_values.specs.Name.{name_of}
 use Rattle.pk_values.specs.declared.refusal.Refusal.TheVariants.{ValueCount}
+use Rattle.pk_values.specs.declared.row.TheConstants.{MOST_COLUMNS}
+use Rattle.pk_values.specs.declared.value.Value.TheVariants.{Null}
 use Rattle.pk_lex.specs.declared.token.Token.TheVariants.{Word, Number, Symbol as Sign}
 use Rattle.pk_lex.specs.declared.token.Symbol.TheVariants.{AtMost, UnequalAngle, Minus}
 use Rattle.pk_lex.specs.declared.piece.Body.TheVariants.{Tokens, BadCharacter}
 use Rattle.pk_lex.specs.Symbols.{symbol_at}
 use Rattle.pk_lex.specs.Pieces.{pieces}
+use Rattle.pk_parse.specs.Words.{reserved}
 use Rattle.pk_parse.specs.Tokens.{number_of}
 use Rattle.pk_report.specs.declared.reply.Reply.TheVariants.{Inserted, Selected, Refused}
 use Rattle.pk_report.specs.Text.{text}
 use Rattle.pk_engine.specs.Base.{empty_base}
+use Rattle.pk_run.specs.declared.scripts.TheConstants.{MOST_SCRIPT}
+use Rattle.pk_run.specs.declared.status.Status.TheVariants.{Done, Refused as SomeRefused, Usage, ScriptFault, ReplyFault, OutOfMemory, LongScript}
+use Rattle.pk_run.specs.Status.{code_of}
+use Rattle.pk_run.specs.Served.{is_short}
 use Rattle.pk_run.specs.Words.{is_plain_form}
-use Rattle.pk_run.specs.Told.{told}
+use Rattle.pk_run.specs.Told.{told, is_refused}
 use Rattle.pk_run.specs.Example.{lines}
+
+-- the limits, in digits
+pub record LimitsInDigits : Type 0 where
+  pub script : MOST_SCRIPT ≡ 4194304
+  pub columns : MOST_COLUMNS ≡ 32
+  pub words : length reserved ≡ 52
+  pub name : is_short (codes "a23456789012345678901234567890") ≡ true
+  pub long_name : is_short (codes "a234567890123456789012345678901") ≡ false
+
+-- the exit status of each way in which a run ends
+pub record StatusesInDigits : Type 0 where
+  pub done : code_of Done ≡ 0
+  pub refused : code_of SomeRefused ≡ 1
+  pub usage : code_of Usage ≡ 2
+  pub script_fault : code_of ScriptFault ≡ 3
+  pub reply_fault : code_of ReplyFault ≡ 4
+  pub memory : code_of OutOfMemory ≡ 7
+  pub long_script : code_of LongScript ≡ 8
 
 -- names: the empty word, a digit first, capitals and `_`
 pub record NamesAtTheirEdges : Type 0 where
@@ -26,12 +51,18 @@ pub record SymbolsAtTheirEdges : Type 0 where
   pub no_longer : symbol_at (codes "<>=") ≡ Some UnequalAngle
   pub half : symbol_at (codes "!a") ≡ None
 
--- pieces: none at all, the last without a semicolon, two faults on two lines behind a token on a third
+-- pieces: none at all, the last without a semicolon, tokens with nothing between, a fault on a later line than its piece
 pub record PiecesAtTheirEdges : Type 0 where
   pub none : pieces (codes " ;;; ") ≡ []
   pub last : pieces (codes "a") ≡ record { line = 1; body = Tokens (Word (codes "a") ∷ []) } ∷ []
   pub run_on : pieces (codes "1AND--") ≡ record { line = 1; body = Tokens (Number (codes "1") ∷ Word (codes "and") ∷ Sign Minus ∷ Sign Minus ∷ []) } ∷ []
-  pub faults : pieces (10 ∷ codes "a" ++ 10 ∷ codes "$" ++ 13 ∷ 10 ∷ codes "'") ≡ record { line = 2; body = BadCharacter 3 } ∷ []
+  pub faults : pieces (10 ∷ codes "a" ++ 10 ∷ codes "$" ++ 10 ∷ codes "?") ≡ record { line = 2; body = BadCharacter 3 } ∷ []
+
+-- line feeds end lines, and carriage returns don't
+pub record LinesAtTheirEdges : Type 0 where
+  pub feed : pieces (10 ∷ codes "a") ≡ record { line = 2; body = Tokens (Word (codes "a") ∷ []) } ∷ []
+  pub return : pieces (13 ∷ codes "a") ≡ record { line = 1; body = Tokens (Word (codes "a") ∷ []) } ∷ []
+  pub fault_behind : pieces (codes "a" ++ 13 ∷ codes "$") ≡ record { line = 1; body = BadCharacter 1 } ∷ []
 
 -- numbers: no digit, leading zeros, and the largest of 64 bits
 pub record NumbersAtTheirEdges : Type 0 where
@@ -39,9 +70,10 @@ pub record NumbersAtTheirEdges : Type 0 where
   pub leading : number_of (codes "00000000000000000000000000000000000000007") ≡ 7
   pub largest : number_of (codes "9223372036854775807") ≡ 2 ^ 63 - 1
 
--- replies: no row, the largest count, and the least number
+-- replies: no row, nothing known, the largest count, and the least number
 pub record RepliesAtTheirEdges : Type 0 where
   pub no_row : text (Selected (codes "a" ∷ []) []) ≡ lines (codes "a" ∷ codes "rows 0" ∷ [])
+  pub null : text (Selected (codes "a" ∷ codes "b" ∷ []) ((Null ∷ Null ∷ []) ∷ [])) ≡ lines (codes "a|b" ∷ codes "NULL|NULL" ∷ codes "rows 1" ∷ [])
   pub largest : text (Inserted (2 ^ 64 - 1)) ≡ lines (codes "inserted 18446744073709551615" ∷ [])
   pub counts : text (Refused (ValueCount 0 32)) ≡ lines (codes "refused: 0 values for 32 columns" ∷ [])
 
@@ -56,6 +88,14 @@ pub record WordsAtTheirEdges : Type 0 where
 abbrev pub Tells : List ℕ → List (List ℕ) → Type 0
 Tells script replies = told empty_base script ≡ lines replies
 
+-- whether some reply is a refusal: with none, the first, one in the middle, the last, and no reply at all
+pub record RefusalsAtTheirEdges : Type 0 where
+  pub nowhere : is_refused empty_base (codes "CREATE TABLE t (a INTEGER); SELECT * FROM t") ≡ false
+  pub first : is_refused empty_base (codes "SELECT * FROM t; CREATE TABLE t (a INTEGER)") ≡ true
+  pub middle : is_refused empty_base (codes "CREATE TABLE t (a INTEGER); SELECT * FROM u; SELECT * FROM t") ≡ true
+  pub last : is_refused empty_base (codes "CREATE TABLE t (a INTEGER); SELECT * FROM u") ≡ true
+  pub empty : is_refused empty_base [] ≡ false
+
 -- whole runs: nothing to do, two causes at once, the last piece unfinished, numbers at and past the end
 pub record RunsAtTheirEdges : Type 0 where
   pub empty : Tells [] []
@@ -63,6 +103,8 @@ pub record RunsAtTheirEdges : Type 0 where
   pub no_table_first : Tells (codes "INSERT INTO u VALUES (1, 2)") (codes "refused: no table u" ∷ [])
   pub exists : Tells (codes "CREATE TABLE t (a INTEGER); CREATE TABLE T (b INTEGER); SELECT * FROM t") (codes "created t" ∷ codes "refused: table t exists" ∷ codes "a" ∷ codes "rows 0" ∷ [])
   pub counted : Tells (codes "CREATE TABLE t (a INTEGER, b INTEGER); INSERT INTO t VALUES (1); INSERT INTO t VALUES (1, 2, 3)") (codes "created t" ∷ codes "refused: 1 values for 2 columns" ∷ codes "refused: 3 values for 2 columns" ∷ [])
+  pub zero : Tells (codes "CREATE TABLE t (a INTEGER); INSERT INTO t VALUES (0); SELECT * FROM t") (codes "created t" ∷ codes "inserted 1" ∷ codes "a" ∷ codes "0" ∷ codes "rows 1" ∷ [])
+  pub fault_on_a_later_line : Tells (codes "SELECT *" ++ 10 ∷ codes "FROM $") (codes "refused: not a statement on line 1" ∷ [])
   pub unserved_first : Tells (codes "INSERT INTO u VALUES (1), (2)") (codes "refused: not a statement on line 1" ∷ [])
   pub twice_named : Tells (codes "CREATE TABLE t (a INTEGER, b INTEGER, a INTEGER)") (codes "refused: not a statement on line 1" ∷ [])
   pub past_64_bits : Tells (codes "CREATE TABLE t (a INTEGER); INSERT INTO t VALUES (9223372036854775808); INSERT INTO t VALUES (9223372036854775807); SELECT * FROM t") (codes "created t" ∷ codes "refused: not a statement on line 1" ∷ codes "inserted 1" ∷ codes "a" ∷ codes "9223372036854775807" ∷ codes "rows 1" ∷ [])
@@ -71,10 +113,14 @@ pub record RunsAtTheirEdges : Type 0 where
 
 -- the definitions at their edges
 pub record EdgesAreTold : Type 0 where
+  pub limits : LimitsInDigits
+  pub statuses : StatusesInDigits
   pub names : NamesAtTheirEdges
   pub symbols : SymbolsAtTheirEdges
   pub piece_edges : PiecesAtTheirEdges
+  pub line_edges : LinesAtTheirEdges
   pub numbers : NumbersAtTheirEdges
   pub replies : RepliesAtTheirEdges
   pub words : WordsAtTheirEdges
+  pub refusals : RefusalsAtTheirEdges
   pub runs : RunsAtTheirEdges

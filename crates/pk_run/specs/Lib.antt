@@ -2,6 +2,7 @@ pub mod Words
 pub mod Status
 pub mod Served
 pub mod Told
+pub mod Run
 pub mod Laws
 pub mod Example
 pub mod Edges

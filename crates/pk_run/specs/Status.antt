@@ -21,13 +21,3 @@ IsUnrun Usage = Unit {0}
 IsUnrun ScriptFault = Unit {0}
 IsUnrun OutOfMemory = Unit {0}
 IsUnrun LongScript = Unit {0}
-
--- the script was read before
-abbrev pub IsRunEnd : Status → Type 0
-IsRunEnd Done = Unit {0}
-IsRunEnd Refused = Unit {0}
-IsRunEnd ReplyFault = Unit {0}
-IsRunEnd OutOfMemory = Unit {0}
-IsRunEnd Usage = ⊥
-IsRunEnd ScriptFault = ⊥
-IsRunEnd LongScript = ⊥

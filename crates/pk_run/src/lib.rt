@@ -11,7 +11,10 @@ mod serving;
 mod status;
 mod top;
 
-pub use laws::{edges_are_told, example_is_told, refusals_change_nothing, runs_in_halves};
+pub use laws::{
+    edges_are_told, example_is_told, fronts_are_fronts, inserts_stand_last,
+    refusals_change_nothing, runs_in_halves, selects_change_nothing,
+};
 pub use serving::served;
 pub use status::Status;
 pub use top::run_keytab;

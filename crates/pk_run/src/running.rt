@@ -1,9 +1,10 @@
-ghost use Rattle.std.specs.Prelude.{◌≡◌, ◌++◌, ◌≤◌, ◌||◌, IsTrue, IfOk, IsErrOf};
+ghost use Rattle.std.specs.Prelude.{◌≡◌, ◌≤◌, IsTrue, IfOk, IsErrOf};
 ghost use Rattle.pk_world.specs.Rose.{Rose};
 ghost use Rattle.pk_engine.specs.State.{State};
 ghost use Rattle.pk_engine.specs.Stands.{StandsFor};
 ghost use Rattle.pk_report.specs.Text.{text};
-ghost use Rattle.pk_run.specs.Told.{step, run, told_by, is_refusal, has_refusal, TellsFront};
+ghost use Rattle.pk_run.specs.Told.{step, run, told_by, is_refusal, has_refusal};
+ghost use Rattle.pk_run.specs.Run.{Takes, TakesFront};
 
 use crate::serving::served;
 use pk_engine::Engine;
@@ -52,12 +53,13 @@ pub fn run_pieces<W: Station>(
     station: &mut W,
 ) -> Result<bool, RunErr>
     requires { (st : State) × StandsFor engine.old st }
-    ensures whole { IfOk result (λ _. (st : State) → StandsFor engine.old st → IsTrue (W.tells station.old) → W.told station.new ≡ W.told station.old ++ told_by (run st pieces.now)) }
+    ensures whole { IfOk result (λ _. (st : State) → StandsFor engine.old st → Takes W.Station station.old station.new (told_by (run st pieces.now))) }
     ensures refused { IfOk result (λ refused. (st : State) → StandsFor engine.old st → refused ≡ has_refusal (run st pieces.now)) }
-    ensures front { (st : State) → StandsFor engine.old st → IsTrue (W.tells station.old) → TellsFront (W.told station.old) (W.told station.new) (told_by (run st pieces.now)) }
-    ensures tells { W.tells station.new ≡ W.tells station.old }
+    ensures front { (st : State) → StandsFor engine.old st → TakesFront W.Station station.old station.new (told_by (run st pieces.now)) }
     ensures cause { IsErrOf result RunErr.Fault → Rose (W.sink_faults station.old) (W.sink_faults station.new) }
+    ensures unfailed { ¬ IsErrOf result RunErr.Fault → W.sink_faults station.new ≡ W.sink_faults station.old }
     ensures count { W.sink_faults station.old ≤ W.sink_faults station.new }
+    ensures tells { IsTrue (W.tells station.old) → IsTrue (W.tells station.new) }
 {
     let mut refused = false;
     for piece in pieces {
@@ -75,13 +77,14 @@ fn answer_and_tell<W: Station>(
     station: &mut W,
 ) -> Result<bool, RunErr>
     requires { (st : State) × StandsFor engine.old st }
-    ensures told { IfOk result (λ _. (st : State) → StandsFor engine.old st → IsTrue (W.tells station.old) → W.told station.new ≡ W.told station.old ++ text (step st piece.now).reply) }
+    ensures told { IfOk result (λ _. (st : State) → StandsFor engine.old st → Takes W.Station station.old station.new (text (step st piece.now).reply)) }
     ensures refused { IfOk result (λ refused. (st : State) → StandsFor engine.old st → refused ≡ is_refusal (step st piece.now).reply) }
     ensures next { IfOk result (λ _. (st : State) → StandsFor engine.old st → StandsFor engine.new (step st piece.now).next) }
-    ensures front { (st : State) → StandsFor engine.old st → IsTrue (W.tells station.old) → TellsFront (W.told station.old) (W.told station.new) (text (step st piece.now).reply) }
-    ensures tells { W.tells station.new ≡ W.tells station.old }
+    ensures front { (st : State) → StandsFor engine.old st → TakesFront W.Station station.old station.new (text (step st piece.now).reply) }
     ensures cause { IsErrOf result RunErr.Fault → Rose (W.sink_faults station.old) (W.sink_faults station.new) }
+    ensures unfailed { ¬ IsErrOf result RunErr.Fault → W.sink_faults station.new ≡ W.sink_faults station.old }
     ensures count { W.sink_faults station.old ≤ W.sink_faults station.new }
+    ensures tells { IsTrue (W.tells station.old) → IsTrue (W.tells station.new) }
 {
     let reply = answer_piece(alloc, engine, piece)?;
     let text = reply_text(alloc, &reply)?;

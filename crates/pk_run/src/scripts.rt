@@ -1,5 +1,6 @@
-ghost use Rattle.std.specs.Prelude.{◌≡◌, ◌+◌, ◌<◌, ◌≤◌, ◌++◌, [], length, vec_len, IsTrue, IfOk, OnErr, IsErrOf};
+ghost use Rattle.std.specs.Prelude.{◌≡◌, ◌+◌, ◌<◌, ◌≤◌, [], length, IsTrue, IfOk, IsErrOf};
 ghost use Rattle.pk_world.specs.Rose.{Rose};
+ghost use Rattle.pk_run.specs.Run.{WhereTells};
 ghost use Rattle.pk_run.specs.declared.scripts.TheConstants.{MOST_SCRIPT};
 
 use pk_values::Memory;
@@ -35,12 +36,14 @@ impl From<AllocError> for ReadErr {
 
 /// All bytes that a source has left, at most `MOST_SCRIPT`. At most one byte more is taken.
 pub fn script_of<S: Source>(alloc: Global, source: &mut S) -> Result<Vec<u8>, ReadErr>
-    ensures read { IfOk result (λ v. IsTrue (S.tells source.old) → (S.rest source.old ≡ v.items) × (S.rest source.new ≡ [])) }
+    ensures read { IfOk result (λ v. WhereTells S.Source source.old (λ bytes. (bytes ≡ v.items) × (S.rest source.new ≡ []))) }
     ensures fits { IfOk result (λ v. length v.items ≤ MOST_SCRIPT) }
-    ensures long { IsErrOf result ReadErr.Long → IsTrue (S.tells source.old) → MOST_SCRIPT < length (S.rest source.old) }
-    ensures taken { IsTrue (S.tells source.old) → length (S.rest source.old) ≤ length (S.rest source.new) + (MOST_SCRIPT + 1) }
+    ensures long { IsErrOf result ReadErr.Long → WhereTells S.Source source.old (λ bytes. MOST_SCRIPT < length bytes) }
+    ensures taken { WhereTells S.Source source.old (λ bytes. length bytes ≤ length (S.rest source.new) + (MOST_SCRIPT + 1)) }
     ensures cause { IsErrOf result ReadErr.Fault → Rose (S.faults source.old) (S.faults source.new) }
+    ensures unfailed { ¬ IsErrOf result ReadErr.Fault → S.faults source.new ≡ S.faults source.old }
     ensures count { S.faults source.old ≤ S.faults source.new }
+    ensures tells { IsTrue (S.tells source.old) → IsTrue (S.tells source.new) }
 {
     let mut script = Vec::new(alloc);
     let mut room = [0u8; ROOM];

@@ -1,5 +1,5 @@
 use super::*;
-use crate::scripts::MOST_SCRIPT;
+use pk_lex::{Body, Piece, Token, lex};
 use pk_world::{MemorySource, MemoryStation, Pull, Source};
 use std::alloc::Global;
 use std::test::Fail;
@@ -34,7 +34,7 @@ fn run(
 
 #[test]
 fn scripts_are_answered(rt: HostRuntime) -> Result<(), Fail> {
-    let cases: [(&[u8], Status, &[u8]); 22] = [
+    let cases: [(&[u8], Status, &[u8]); 26] = [
         (b"", Status::Done, b""),
         (b" \t\r\n ;;\n; ", Status::Done, b""),
         (FIRST, Status::Done, FIRST_TOLD),
@@ -126,6 +126,27 @@ fn scripts_are_answered(rt: HostRuntime) -> Result<(), Fail> {
             b"refused: not a statement on line 1\n",
         ),
         (
+            b"CREATE TABLE t (a23456789012345678901234567890 INTEGER); SELECT * FROM t;",
+            Status::Done,
+            b"created t\na23456789012345678901234567890\nrows 0\n",
+        ),
+        (
+            b"CREATE TABLE t (a INTEGER); INSERT INTO t VALUES (0); SELECT * FROM t;",
+            Status::Done,
+            b"created t\ninserted 1\na\n0\nrows 1\n",
+        ),
+        // A carriage return ends no line, and a fault is told with the line on which its piece begins.
+        (
+            b"SELECT * FROM t\r;\r\nbegin a\r\r;\nSELECT\n*\n$",
+            Status::Refused,
+            b"refused: no table t\nrefused: not a statement on line 2\nrefused: not a statement on line 3\n",
+        ),
+        (
+            b"SELECT * FROM t; CREATE TABLE t (a INTEGER);",
+            Status::Refused,
+            b"refused: no table t\ncreated t\n",
+        ),
+        (
             b"CREATE TABLE t (a234567890123456789012345678901 INTEGER);",
             Status::Refused,
             b"refused: not a statement on line 1\n",
@@ -211,7 +232,8 @@ fn cases(alloc: Global) -> Result<Vec<Case>, Fail> {
         cases.push((Script::First, 7, 0, tell, Status::ReplyFault, told))?;
     }
     cases.push((Script::First, 7, 0, 4, Status::Done, whole))?;
-    let most = MOST_SCRIPT;
+    // The limit in digits, so that this test holds it.
+    let most = 4_194_304;
     cases.push((Script::Blanks(most), 65536, 0, 0, Status::Done, 0))?;
     cases.push((Script::Blanks(most + 1), 65536, 0, 0, Status::LongScript, 0))?;
     cases.push((Script::Padded(most), 65536, 0, 0, Status::Done, whole))?;
@@ -255,5 +277,135 @@ fn other_words_read_and_write_nothing(rt: HostRuntime) -> Result<(), Fail> {
         let mut room = [0u8; 100];
         assert_eq!(rt; source.pull(&mut room), Pull::Got(FIRST.len()));
     }
+    Ok(())
+}
+
+// What each byte below 128 begins: ` ` a blank, `w` a word, `n` a number, `s` a symbol, `;` nothing, since it ends
+// the piece, and `.` nothing at all, as every byte from 128 on.
+const KINDS: &[u8; 128] = b".........  .. ..\
+    ................\
+    \x20.......sss.ss..\
+    nnnnnnnnnn.;sss.\
+    .wwwwwwwwwwwwwww\
+    wwwwwwwwwww....w\
+    .wwwwwwwwwwwwwww\
+    wwwwwwwwwww.....";
+
+fn kind_of(byte: u8) -> u8 {
+    if byte < 128 {
+        KINDS[byte as usize]
+    } else {
+        b'.'
+    }
+}
+
+// The tokens of a script, each by the letter of its kind once for each of its bytes, and a bar before each but the
+// first; `.` for a fault.
+fn shape(alloc: Global, script: &[u8]) -> Result<Vec<u8>, Fail> {
+    let mut shape = Vec::new(alloc);
+    let pieces = lex(alloc, script)?;
+    for piece in &pieces {
+        add_piece(piece, &mut shape)?;
+    }
+    Ok(shape)
+}
+
+fn add_piece(piece: &Piece, shape: &mut Vec<u8>) -> Result<(), Fail> {
+    let Body::Tokens(tokens) = &piece.body else {
+        shape.push(b'.')?;
+        return Ok(());
+    };
+    for token in tokens.as_slice() {
+        if !shape.is_empty() {
+            shape.push(b'|')?;
+        }
+        add_token(token, shape)?;
+    }
+    Ok(())
+}
+
+fn add_token(token: &Token, shape: &mut Vec<u8>) -> Result<(), Fail> {
+    let (kind, length) = match token {
+        Token::Word(name) => (b'w', name.as_slice().len()),
+        Token::Number(digits) => (b'n', digits.as_slice().len()),
+        _ => (b's', 1),
+    };
+    for _ in 0..length {
+        shape.push(kind)?;
+    }
+    Ok(())
+}
+
+#[test]
+fn each_byte_is_what_it_is(rt: HostRuntime) -> Result<(), Fail> {
+    for byte in 0..=255u8 {
+        let (alone, in_word, in_number): (&[u8], &[u8], &[u8]) = match kind_of(byte) {
+            b' ' | b';' => (b"", b"w", b"n"),
+            b'w' => (b"w", b"ww", b"n|w"),
+            b'n' => (b"n", b"ww", b"nn"),
+            b's' => (b"s", b"w|s", b"n|s"),
+            _ => (b".", b".", b"."),
+        };
+        for (script, want) in [
+            ([b' ', byte], alone),
+            ([b'a', byte], in_word),
+            ([b'1', byte], in_number),
+        ] {
+            let got = shape(rt.alloc(), &script)?;
+            assert_eq!(rt; got.as_slice(), want, "at {script:?}");
+        }
+    }
+    Ok(())
+}
+
+// So many times the same.
+fn repeat(script: &mut Vec<u8>, text: &[u8], times: usize) -> Result<(), Fail> {
+    for _ in 0..times {
+        script.extend_from_slice(text)?;
+    }
+    Ok(())
+}
+
+fn create_tables(script: &mut Vec<u8>, alloc: Global, count: u32) -> Result<(), Fail> {
+    for n in 0..count {
+        let text = format!(in alloc; "CREATE TABLE t{n} (a INTEGER);")?;
+        script.extend_from_slice(text.as_bytes())?;
+    }
+    Ok(())
+}
+
+// With ample memory no run of an everyday size ends for want of it.
+#[test]
+fn everyday_sizes_find_memory(rt: HostRuntime) -> Result<(), Fail> {
+    let alloc = rt.alloc();
+    let mut script = Vec::new(alloc);
+    // A word of 1,000 bytes, which is no statement.
+    repeat(&mut script, b"w", 1000)?;
+    script.extend_from_slice(b";")?;
+    create_tables(&mut script, alloc, 100)?;
+    // A number of 1,000 digits.
+    script.extend_from_slice(b"INSERT INTO t0 VALUES (")?;
+    repeat(&mut script, b"0", 999)?;
+    script.extend_from_slice(b"7);")?;
+    // 1,001 values for one column.
+    script.extend_from_slice(b"INSERT INTO t0 VALUES (0")?;
+    repeat(&mut script, b", 1", 1000)?;
+    script.extend_from_slice(b");")?;
+    // 1,000 rows, each from a piece of its own.
+    repeat(&mut script, b"INSERT INTO t0 VALUES (5);", 1000)?;
+    script.extend_from_slice(b"SELECT * FROM t0")?;
+    let got = run(alloc, &script, 4096, &[], &[])?;
+    assert_eq!(rt; got.0, Status::Refused);
+
+    let mut told = Vec::from_slice(alloc, b"refused: not a statement on line 1\n")?;
+    for n in 0..100 {
+        told.extend_from_slice(format!(in alloc; "created t{n}\n")?.as_bytes())?;
+    }
+    told.extend_from_slice(b"inserted 1\nrefused: 1001 values for 1 columns\n")?;
+    repeat(&mut told, b"inserted 1\n", 1000)?;
+    told.extend_from_slice(b"a\n7\n")?;
+    repeat(&mut told, b"5\n", 1000)?;
+    told.extend_from_slice(b"rows 1001\n")?;
+    assert!(rt; got.1.as_slice() == told.as_slice());
     Ok(())
 }

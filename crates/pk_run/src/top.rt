@@ -1,10 +1,11 @@
-ghost use Rattle.std.specs.Prelude.{◌≡◌, ◌↔◌, ◌+◌, ◌++◌, ◌<◌, ◌≤◌, [], true, false, length, map, IsTrue};
+ghost use Rattle.std.specs.Prelude.{◌≡◌, ◌↔◌, ◌+◌, ◌<◌, ◌≤◌, true, false, length, map, IsTrue, IfOk, IsErrOf};
 ghost use Rattle.std.specs.String.{string_bytes};
 ghost use Rattle.pk_world.specs.Rose.{Rose};
 ghost use Rattle.pk_engine.specs.Base.{empty_base};
-ghost use Rattle.pk_run.specs.Status.{IsUnrun, IsRunEnd};
+ghost use Rattle.pk_run.specs.Status.{IsUnrun};
 ghost use Rattle.pk_run.specs.Words.{is_plain_form};
-ghost use Rattle.pk_run.specs.Told.{told, is_refused, TellsFront};
+ghost use Rattle.pk_run.specs.Told.{told, is_refused};
+ghost use Rattle.pk_run.specs.Run.{WhereTells, Takes, TakesFront, OnWholeRun, IsReadAs, IsLeftBy, AreCountedBy, IsUnstopped};
 ghost use Rattle.pk_run.specs.declared.scripts.TheConstants.{MOST_SCRIPT};
 
 use crate::running::{RunErr, run_pieces};
@@ -24,70 +25,61 @@ pub fn run_keytab<S: Source, W: Station>(
     script: &mut S,
     station: &mut W,
 ) -> Status
-    // At every status the bytes that were told are a front of the machine's.
-    ensures front { IsTrue (S.tells script.old) → IsTrue (W.tells station.old) → TellsFront (W.told station.old) (W.told station.new) (told empty_base (S.rest script.old)) }
+    // What is told is a front of the machine's replies, and all of them where the script was run to its end.
+    ensures front { WhereTells S.Source script.old (λ bytes. TakesFront W.Station station.old station.new (told empty_base bytes)) }
+    ensures whole { OnWholeRun result (WhereTells S.Source script.old (λ bytes. Takes W.Station station.old station.new (told empty_base bytes))) }
 
-    // The script was run to its end, all of the replies were told, and none is a refusal.
-    ensures done_told { result ≡ Status.Done → IsTrue (S.tells script.old) → IsTrue (W.tells station.old) → W.told station.new ≡ W.told station.old ++ told empty_base (S.rest script.old) }
-    ensures done_read { result ≡ Status.Done → IsTrue (S.tells script.old) → (S.rest script.new ≡ []) × (is_refused empty_base (S.rest script.old) ≡ false) }
+    // What each status says of the script, of source and station, and of their counts of faults.
+    ensures read { WhereTells S.Source script.old (λ bytes. IsReadAs result bytes (S.rest script.new)) }
+    ensures leaves { IsLeftBy result script.old script.new station.old station.new }
+    ensures faults { AreCountedBy result (S.faults script.old) (S.faults script.new) (W.sink_faults station.old) (W.sink_faults station.new) }
 
-    // The same, and some reply is a refusal.
-    ensures refused_told { result ≡ Status.Refused → IsTrue (S.tells script.old) → IsTrue (W.tells station.old) → W.told station.new ≡ W.told station.old ++ told empty_base (S.rest script.old) }
-    ensures refused_read { result ≡ Status.Refused → IsTrue (S.tells script.old) → (S.rest script.new ≡ []) × (is_refused empty_base (S.rest script.old) ≡ true) }
-
-    // The words are none of the plain forms; nothing is read or told.
+    // The words are none of the plain forms.
     ensures usage { (result ≡ Status.Usage) ↔ (is_plain_form (map string_bytes words.now) ≡ false) }
-    ensures usage_untouched { result ≡ Status.Usage → (script.new ≡ script.old) × (station.new ≡ station.old) }
 
-    // The outside failed; where the source did, nothing is told.
-    ensures script_fault { result ≡ Status.ScriptFault → Rose (S.faults script.old) (S.faults script.new) }
-    ensures script_fault_untold { result ≡ Status.ScriptFault → station.new ≡ station.old }
-    ensures reply_fault { result ≡ Status.ReplyFault → Rose (W.sink_faults station.old) (W.sink_faults station.new) }
+    // Where the words ask for a run and no count rises, the run is whole, or memory ran out, or the script is too long.
+    ensures complete { is_plain_form (map string_bytes words.now) ≡ true → ¬ Rose (S.faults script.old) (S.faults script.new) → ¬ Rose (W.sink_faults station.old) (W.sink_faults station.new) → IsUnstopped result (WhereTells S.Source script.old (λ bytes. Takes W.Station station.old station.new (told empty_base bytes))) (WhereTells S.Source script.old (λ bytes. MOST_SCRIPT < length bytes)) }
 
-    // The script is too long, and nothing is told; one that is too long is never run.
-    ensures long { result ≡ Status.LongScript → IsTrue (S.tells script.old) → MOST_SCRIPT < length (S.rest script.old) }
-    ensures long_untold { result ≡ Status.LongScript → station.new ≡ station.old }
-    ensures never_long { IsTrue (S.tells script.old) → MOST_SCRIPT < length (S.rest script.old) → IsUnrun result × (station.new ≡ station.old) }
+    // A script that is too long is never run, and at most one byte more than a script may have is taken.
+    ensures never_long { WhereTells S.Source script.old (λ bytes. MOST_SCRIPT < length bytes → IsUnrun result × (station.new ≡ station.old)) }
+    ensures taken { WhereTells S.Source script.old (λ bytes. length bytes ≤ length (S.rest script.new) + (MOST_SCRIPT + 1)) }
 
-    // At most one byte more than a script may have is taken from the source.
-    ensures script_taken { IsTrue (S.tells script.old) → length (S.rest script.old) ≤ length (S.rest script.new) + (MOST_SCRIPT + 1) }
-
+    // No count falls, and what tells its bytes goes on to tell them.
     ensures script_count { S.faults script.old ≤ S.faults script.new }
     ensures reply_count { W.sink_faults station.old ≤ W.sink_faults station.new }
+    ensures script_tells { IsTrue (S.tells script.old) → IsTrue (S.tells script.new) }
+    ensures station_tells { IsTrue (W.tells station.old) → IsTrue (W.tells station.new) }
 {
     if !is_memory(words) {
         return Status::Usage;
     }
     match script_of(alloc, script) {
-        Ok(bytes) => run_script(alloc, bytes.as_slice(), station),
+        Ok(bytes) => match run_script(alloc, bytes.as_slice(), station) {
+            Ok(false) => Status::Done,
+            Ok(true) => Status::Refused,
+            Err(RunErr::Fault) => Status::ReplyFault,
+            Err(RunErr::OutOfMemory) => Status::OutOfMemory,
+        },
         Err(ReadErr::Fault) => Status::ScriptFault,
         Err(ReadErr::Long) => Status::LongScript,
         Err(ReadErr::OutOfMemory) => Status::OutOfMemory,
     }
 }
 
-// Runs a whole script from the empty base.
+// Runs a whole script from the empty base. At `Ok` it says whether some reply is a refusal.
 #[tactic(auto, unfolding(crate::specs::Told::told, crate::specs::Told::is_refused))]
-fn run_script<W: Station>(alloc: Global, script: &[u8], station: &mut W) -> Status
-    ensures front { IsTrue (W.tells station.old) → TellsFront (W.told station.old) (W.told station.new) (told empty_base script.now) }
-    ensures done { result ≡ Status.Done → IsTrue (W.tells station.old) → W.told station.new ≡ W.told station.old ++ told empty_base script.now }
-    ensures done_refuses { result ≡ Status.Done → is_refused empty_base script.now ≡ false }
-    ensures refused { result ≡ Status.Refused → IsTrue (W.tells station.old) → W.told station.new ≡ W.told station.old ++ told empty_base script.now }
-    ensures refused_refuses { result ≡ Status.Refused → is_refused empty_base script.now ≡ true }
-    ensures fault { result ≡ Status.ReplyFault → Rose (W.sink_faults station.old) (W.sink_faults station.new) }
+fn run_script<W: Station>(alloc: Global, script: &[u8], station: &mut W) -> Result<bool, RunErr>
+    ensures front { TakesFront W.Station station.old station.new (told empty_base script.now) }
+    ensures whole { IfOk result (λ _. Takes W.Station station.old station.new (told empty_base script.now)) }
+    ensures refused { IfOk result (λ refused. refused ≡ is_refused empty_base script.now) }
+    ensures cause { IsErrOf result RunErr.Fault → Rose (W.sink_faults station.old) (W.sink_faults station.new) }
+    ensures unfailed { ¬ IsErrOf result RunErr.Fault → W.sink_faults station.new ≡ W.sink_faults station.old }
     ensures count { W.sink_faults station.old ≤ W.sink_faults station.new }
-    ensures ends { IsRunEnd result }
+    ensures tells { IsTrue (W.tells station.old) → IsTrue (W.tells station.new) }
 {
-    let Ok(pieces) = lex(alloc, script) else {
-        return Status::OutOfMemory;
-    };
+    let pieces = lex(alloc, script)?;
     let mut engine = Engine::empty(alloc);
-    match run_pieces(alloc, &mut engine, pieces.as_slice(), station) {
-        Ok(false) => Status::Done,
-        Ok(true) => Status::Refused,
-        Err(RunErr::Fault) => Status::ReplyFault,
-        Err(RunErr::OutOfMemory) => Status::OutOfMemory,
-    }
+    run_pieces(alloc, &mut engine, pieces.as_slice(), station)
 }
 
 fn is_memory(words: &[String]) -> bool

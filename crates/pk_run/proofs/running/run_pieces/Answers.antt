@@ -1,7 +1,7 @@
-use Rattle.std.proofs.Common.{◌≡◌, Bool, true, false, ◌||◌, List, ℕ, ◌+◌, drop, refl, sym, ◌∙◌, ap, subst, arith}
+use Rattle.std.proofs.Common.{◌≡◌, Bool, true, false, ◌||◌, List, ℕ, ◌+◌, drop, refl, sym, ◌∙◌, ap, subst}
 use Rattle.std.specs.Prelude.{IsTrue}
 use Rattle.pk_run.specs.Told.{step, run, told_by, has_refusal}
-use Rattle.pk_run.proofs.Runs.{GoesOn, goes_on_more, front_of_more, told_from, refused_from}
+use Rattle.pk_run.proofs.Runs.{GoesOn, goes_on_more, front_of_more, told_from, refused_from, ok_is_no_fault}
 use Rattle.pk_run.proofs.running.run_pieces.Goals as goal
 use Rattle.pk_run.proofs.running.run_pieces.Goals.{then-refused, else-refused}
 
@@ -9,7 +9,7 @@ use Rattle.pk_run.proofs.running.run_pieces.Goals.{then-refused, else-refused}
 pub returns-in_err-is_refused-clause-front : goal.returns-in_err-is_refused-clause-front
 returns-in_err-is_refused-clause-front g c = λ st stands tells.
     let so_far = c.loop-piece.invariant.goes_on st stands in
-    let still : IsTrue (g.W.Station.tells c.loop-piece.station) = c.loop-piece.invariant.tells ∙ tells in
+    let still : IsTrue (g.W.Station.tells c.loop-piece.station) = c.loop-piece.invariant.tells tells in
     front_of_more _ _ _ _ _ _
     (subst (λ (rest : List ℕ). GoesOn (g.W.Station.told c.args.station.now) (g.W.Station.told c.loop-piece.station) (told_by (run st c.args.pieces.now)) rest)
     (told_from so_far.0 c.args.pieces.now c.loop-piece.piece-index c.piece-item.result c.loop-piece-test.true c.piece-item.is) (so_far.2 tells))
@@ -31,8 +31,8 @@ loop-piece-preserved g c =
       | else-refused w ↦ w.refused-is ∙ ap (λ (b : Bool). b || c.in_ok-is_refused.is_refused) (sym w.if-refused.false)
     ] in
     record {
-      tells = c.answer_and_tell.ensures.tells ∙ c.loop-piece.invariant.tells;
-      count = omega (arith, c.answer_and_tell.ensures.count, c.loop-piece.invariant.count);
+      tells = λ tells. c.answer_and_tell.ensures.tells (c.loop-piece.invariant.tells tells);
+      unfailed = c.answer_and_tell.ensures.unfailed (ok_is_no_fault _ _ _ c.in_ok-is_refused.was) ∙ c.loop-piece.invariant.unfailed;
       some = ((step c.loop-piece.invariant.some.0 piece).next, ok.next c.loop-piece.invariant.some.0 c.loop-piece.invariant.some.1);
       goes_on = λ st stands.
           let so_far = c.loop-piece.invariant.goes_on st stands in
@@ -41,7 +41,7 @@ loop-piece-preserved g c =
             (step now piece).next,
             ok.next now so_far.1,
             (λ tells.
-                let still : IsTrue (g.W.Station.tells c.loop-piece.station) = c.loop-piece.invariant.tells ∙ tells in
+                let still : IsTrue (g.W.Station.tells c.loop-piece.station) = c.loop-piece.invariant.tells tells in
                 goes_on_more _ _ _ _ _ _
                 (subst (λ (rest : List ℕ). GoesOn (g.W.Station.told c.args.station.now) (g.W.Station.told c.loop-piece.station) (told_by (run st pieces)) rest)
                 (told_from now pieces place piece c.loop-piece-test.true c.piece-item.is) (so_far.2 tells))

@@ -1,4 +1,4 @@
-use Rattle.std.proofs.Common.{◌≡◌, ◌≤◌, drop}
+use Rattle.std.proofs.Common.{◌≡◌, drop}
 use Rattle.std.specs.Prelude.{IsTrue, ◌||◌}
 use Rattle.pk_engine.specs.State.{State}
 use Rattle.pk_engine.specs.Stands.{StandsFor}
@@ -10,8 +10,8 @@ use Rattle.pk_run.proofs.running.run_pieces.Given as goal
 -- there, is what all of them tell
 abbrev pub invariant-loop-piece : goal.invariant-loop-piece
 invariant-loop-piece g l = record {
-  tells : g.W.Station.tells l.station ≡ g.W.Station.tells l.fn.station;
-  count : g.W.Station.sink_faults l.fn.station ≤ g.W.Station.sink_faults l.station;
+  tells : IsTrue (g.W.Station.tells l.fn.station) → IsTrue (g.W.Station.tells l.station);
+  unfailed : g.W.Station.sink_faults l.station ≡ g.W.Station.sink_faults l.fn.station;
   some : (st : State) × StandsFor l.engine st;
   goes_on : (st : State) → StandsFor l.fn.engine st
       → (now : State) × StandsFor l.engine now

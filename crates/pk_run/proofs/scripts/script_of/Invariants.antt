@@ -6,10 +6,10 @@ use Rattle.pk_run.proofs.scripts.script_of.Given as goal
 -- the bytes so far and those that are left make up the script
 abbrev pub invariant-loop-room : goal.invariant-loop-room
 invariant-loop-room g l = record {
-  tells : g.S.Source.tells l.source ≡ g.S.Source.tells l.fn.source;
+  tells : IsTrue (g.S.Source.tells l.fn.source) → IsTrue (g.S.Source.tells l.source);
   bytes : IsTrue (g.S.Source.tells l.fn.source) → g.S.Source.rest l.fn.source ≡ l.script.items ++ g.S.Source.rest l.source;
   fits : vec_len l.script ≤ MOST_SCRIPT + 1;
-  count : g.S.Source.faults l.fn.source ≤ g.S.Source.faults l.source;
+  unfailed : g.S.Source.faults l.source ≡ g.S.Source.faults l.fn.source;
 }
 
 abbrev pub decreases-loop-room : goal.decreases-loop-room
