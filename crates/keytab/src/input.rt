@@ -1,16 +1,20 @@
 ghost use Rattle.std.specs.Prelude.{◌≡◌};
+ghost use Rattle.std.specs.Io.{ReadsAtMost};
+ghost use Rattle.std.specs.Io.KnownBytes.{ReadConsumes};
 
 use pk_world::{Pull, Source};
-use std::io::Read;
+use std::io;
+use std::io::{ErrorKind, Read};
 
 // How many bytes are read at once.
 const BUFFER: usize = 4096;
 
-/// A source over a reader, as standard input is. It doesn't tell which bytes will come.
+/// A source over a reader, as standard input is. It tells which bytes will come where std knows what
+/// the reader has left; of standard input nobody knows it.
 #[derive(Drop)]
 pub struct Input<R: Read + Drop> {
     reader: R,
-    faults: u64,
+    pub(crate) faults: u64,
 }
 
 impl<R: Read + Drop> Input<R> {
@@ -24,11 +28,11 @@ impl<R: Read + Drop> Input<R> {
 }
 
 impl<R: Read + Drop> Source for Input<R> {
-    ghost use Rattle.std.specs.Prelude.{[], false};
+    ghost use Rattle.std.specs.Prelude.{[], is_some, unwrap_or};
 
-    ghost tells = { λ _. false };
+    ghost tells = { λ s. is_some (R.remaining s.reader) };
 
-    ghost rest = { λ _. [] };
+    ghost rest = { λ s. unwrap_or (R.remaining s.reader) [] };
 
     ghost faults = { λ s. s.faults };
 
@@ -36,7 +40,7 @@ impl<R: Read + Drop> Source for Input<R> {
     fn pull(&mut self, room: &mut [u8]) -> Pull {
         let mut buffer = [0u8; BUFFER];
         let most = room.len().min(BUFFER);
-        match self.reader.read(&mut buffer[..most]) {
+        match read_some(&mut self.reader, &mut buffer[..most]) {
             Ok(0) => Pull::End,
             Ok(count) => {
                 let front = &mut room[..count];
@@ -49,4 +53,22 @@ impl<R: Read + Drop> Source for Input<R> {
             }
         }
     }
+}
+
+// Reads once, and again where a signal broke the reading off, as std's own loops do.
+fn read_some<R: Read>(reader: &mut R, room: &mut [u8]) -> io::Result<usize>
+    ensures bound { ReadsAtMost result room.new }
+    ensures bytes { ReadConsumes (R.remaining reader.old) (R.remaining reader.new) result room.new }
+{
+    for _ in 0..u64::MAX {
+        match reader.read(room) {
+            Ok(count) => return Ok(count),
+            Err(error) => {
+                if error.kind() != ErrorKind::Interrupted {
+                    return Err(error);
+                }
+            }
+        }
+    }
+    Err(io::Error::from(ErrorKind::Interrupted))
 }

@@ -1,0 +1,10 @@
+use Rattle.std.proofs.Common.{◌≤◌, length, take}
+use Rattle.std.specs.Io.KnownBytes.{Appends}
+use Rattle.keytab.proofs.output.write_whole.Given as goal
+
+-- the writer took the bytes so far, and no others
+abbrev pub invariant-loop : goal.invariant-loop
+invariant-loop g l = record {
+  within : l.at ≤ length l.bytes;
+  written : Appends (g.W.Write.contents l.fn.writer) (g.W.Write.contents l.writer) (take l.at l.bytes);
+}
