@@ -22,28 +22,32 @@ pub(crate) fn write_line(out: &mut Vec<u8>, parts: &[Part<'_>]) -> Result<(), Me
 pub(crate) fn write_barred<T: Shown>(out: &mut Vec<u8>, items: &[T]) -> Result<(), Memory>
     ensures { OnOk result (out.new.items ≡ out.old.items ++ barred T.text items.now) }
 {
-    write_joined(out, items)?;
+    write_joined(out, b"|", items)?;
     out.push(b'\n')?;
     Ok(())
 }
 
-// Writes the items with a bar between each two.
-fn write_joined<T: Shown>(out: &mut Vec<u8>, items: &[T]) -> Result<(), Memory>
-    ensures { OnOk result (out.new.items ≡ out.old.items ++ join_by T.text (codes "|") items.now) }
+/// Writes the items with these bytes between each two.
+pub(crate) fn write_joined<T: Shown>(
+    out: &mut Vec<u8>,
+    between: &[u8],
+    items: &[T],
+) -> Result<(), Memory>
+    ensures { OnOk result (out.new.items ≡ out.old.items ++ join_by T.text between.now items.now) }
 {
     let Some((first, rest)) = items.split_first() else {
         return Ok(());
     };
     first.write_to(out)?;
-    write_others(out, rest)
+    write_others(out, between, rest)
 }
 
-// Writes each item with a bar before it.
-fn write_others<T: Shown>(out: &mut Vec<u8>, items: &[T]) -> Result<(), Memory>
-    ensures { OnOk result (out.new.items ≡ out.old.items ++ flat_map (λ x. codes "|" ++ T.text x) items.now) }
+// Writes each item with these bytes before it.
+fn write_others<T: Shown>(out: &mut Vec<u8>, between: &[u8], items: &[T]) -> Result<(), Memory>
+    ensures { OnOk result (out.new.items ≡ out.old.items ++ flat_map (λ x. between.now ++ T.text x) items.now) }
 {
     for item in items {
-        out.push(b'|')?;
+        out.extend_from_slice(between)?;
         item.write_to(out)?;
     }
     Ok(())

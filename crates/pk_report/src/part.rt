@@ -1,5 +1,6 @@
-use crate::shown::{Shown, write_bytes, write_number};
-use pk_values::{Memory, Name};
+use crate::naming::write_columns;
+use crate::shown::{Shown, write_bytes, write_number, write_values};
+use pk_values::{ColSet, Memory, Name, Value};
 
 /// A part of a line.
 #[derive(Debug, Drop)]
@@ -10,6 +11,10 @@ pub(crate) enum Part<'a> {
     Named(&'a Name),
     /// A number in decimal.
     Number(u64),
+    /// Values in parentheses.
+    Values(&'a [Value]),
+    /// The names of a set's columns in parentheses.
+    Columns { names: &'a [Name], set: ColSet },
 }
 
 impl Shown for Part<'_> {
@@ -22,6 +27,8 @@ impl Shown for Part<'_> {
             Part::Words(words) => write_bytes(out, words),
             Part::Named(name) => write_bytes(out, name.as_slice()),
             Part::Number(n) => write_number(out, *n),
+            Part::Values(values) => write_values(out, values),
+            Part::Columns { names, set } => write_columns(out, names, *set),
         }
     }
 }

@@ -1,8 +1,7 @@
-ghost use Rattle.std.specs.Prelude.{◌<◌};
-
 use super::*;
-use pk_values::{Items, Name, Refusal, Value};
+use pk_values::{Bytes, ColSet, Items, KeyDecl, Name, Refusal, Row, Rule, Sort, Value, Words};
 use std::alloc::Global;
+use std::process::Abort;
 use std::test::Fail;
 
 // A type that threads may share and hand over.
@@ -24,109 +23,136 @@ fn header(alloc: Global, text: &[u8]) -> Result<Items<Name>, Fail> {
     Ok(Items::from_vec(names))
 }
 
-// A row of whole numbers, and of NULL for `None`.
-fn row(alloc: Global, numbers: &[Option<i64>]) -> Result<Items<Value>, Fail> {
-    let mut values = Vec::new(alloc);
-    for number in numbers {
-        values.push(number.map_or(Value::Null, Value::Integer))?;
-    }
-    Ok(Items::from_vec(values))
+// A row of a number, null and a text with a quote.
+fn mixed(alloc: Global) -> Result<Row, Fail> {
+    let name = Words::read(alloc, b"O'Hara")?;
+    Ok(Row::make(vec![in alloc; Value::Integer(i64::MIN), Value::Null, Value::Text(name)]?))
 }
 
-// The numbers cut into rows of this width.
-fn rows(alloc: Global, numbers: &[Option<i64>], width: usize) -> Result<Items<Items<Value>>, Fail>
-    requires { 0 < width }
-{
-    let mut made = Vec::new(alloc);
-    for chunk in numbers.chunks(width) {
-        made.push(row(alloc, chunk)?)?;
-    }
-    Ok(Items::from_vec(made))
+fn assert_told(rt: &impl Abort, alloc: Global, reply: Reply, want: &[u8]) -> Result<(), Fail> {
+    crosses(&reply);
+    let text = reply_text(alloc, &reply)?;
+    assert_eq!(rt; text.as_slice(), want);
+    Ok(())
 }
 
 #[test]
-fn replies_of_one_line_are_told(rt: HostRuntime) -> Result<(), Fail> {
+fn numbers_are_told(rt: HostRuntime) -> Result<(), Fail> {
     let alloc = rt.alloc();
-    let cases: [(Reply, &[u8]); 9] = [
-        (
-            Reply::Created {
-                table: named(alloc, b"t")?,
-            },
-            b"created t\n",
-        ),
-        (Reply::Inserted { n: 1 }, b"inserted 1\n"),
-        (Reply::Inserted { n: 0 }, b"inserted 0\n"),
-        (
-            Reply::Inserted { n: u64::MAX },
-            b"inserted 18446744073709551615\n",
-        ),
-        (
-            Reply::Refused(Refusal::NotStatement { line: 10 }),
-            b"refused: not a statement on line 10\n",
-        ),
-        (
-            Reply::Refused(Refusal::NoTable {
-                table: named(alloc, b"u")?,
-            }),
-            b"refused: no table u\n",
-        ),
-        (
-            Reply::Refused(Refusal::TableExists {
-                table: named(alloc, b"x_1")?,
-            }),
-            b"refused: table x_1 exists\n",
-        ),
-        (
-            Reply::Refused(Refusal::ValueCount {
-                values: 3,
-                columns: 2,
-            }),
-            b"refused: 3 values for 2 columns\n",
-        ),
-        (
-            Reply::Refused(Refusal::ValueCount {
-                values: 1,
-                columns: u64::MAX,
-            }),
-            b"refused: 1 values for 18446744073709551615 columns\n",
-        ),
-    ];
-    for (reply, want) in cases {
-        crosses(&reply);
-        let text = reply_text(alloc, &reply)?;
-        assert_eq!(rt; text.as_slice(), want);
+    for (n, want) in [
+        (0, b"inserted 0\n".as_slice()),
+        (1, b"inserted 1\n"),
+        (u64::MAX, b"inserted 18446744073709551615\n"),
+    ] {
+        assert_told(&rt, alloc, Reply::Inserted { n }, want)?;
     }
-    Ok(())
+    assert_told(&rt, alloc, Reply::Count { n: 4 }, b"count\n4\nrows 1\n")?;
+    assert_told(&rt, alloc, Reply::Begun, b"begun\n")
 }
 
 #[test]
 fn selections_are_told(rt: HostRuntime) -> Result<(), Fail> {
     let alloc = rt.alloc();
-    let cases: [(&[u8], usize, &[Option<i64>], &[u8]); 5] = [
-        (b"a", 1, &[], b"a\nrows 0\n"),
-        (b"a", 1, &[Some(-7), None], b"a\n-7\nNULL\nrows 2\n"),
-        (b"a b", 2, &[Some(1), Some(2)], b"a|b\n1|2\nrows 1\n"),
-        (
-            b"least none most",
-            3,
-            &[Some(i64::MIN), None, Some(i64::MAX)],
-            b"least|none|most\n-9223372036854775808|NULL|9223372036854775807\nrows 1\n",
-        ),
-        (
-            b"a b",
-            2,
-            &[None, None, Some(0), Some(-10), None, None],
-            b"a|b\nNULL|NULL\n0|-10\nNULL|NULL\nrows 3\n",
-        ),
-    ];
-    for (names, width, numbers, want) in cases {
-        assert!(rt; 0 < width);
-        let reply = Reply::Selected {
-            header: header(alloc, names)?,
-            rows: rows(alloc, numbers, width)?,
-        };
-        let text = reply_text(alloc, &reply)?;
-        assert_eq!(rt; text.as_slice(), want);
-    }
-    Ok(())
+    let header_of_three = header(alloc, b"least none most")?;
+    let rows = Items::from_vec(vec![in alloc; Items::from_vec(mixed(alloc)?.into_values())]?);
+    let reply = Reply::Selected {
+        header: header_of_three,
+        rows,
+    };
+    assert_told(
+        &rt,
+        alloc,
+        reply,
+        b"least|none|most\n-9223372036854775808|NULL|'O''Hara'\nrows 1\n",
+    )?;
+    let header_of_one = header(alloc, b"a")?;
+    let reply = Reply::Selected {
+        header: header_of_one,
+        rows: Items::from_vec(Vec::new(alloc)),
+    };
+    assert_told(&rt, alloc, reply, b"a\nrows 0\n")
+}
+
+#[test]
+fn names_and_texts_are_told(rt: HostRuntime) -> Result<(), Fail> {
+    let alloc = rt.alloc();
+    let table = named(alloc, b"t")?;
+    assert_told(&rt, alloc, Reply::Created { table }, b"created t\n")?;
+    let text = Bytes::copy(alloc, b"CREATE TABLE t (a INTEGER);")?;
+    assert_told(
+        &rt,
+        alloc,
+        Reply::Shown { text },
+        b"CREATE TABLE t (a INTEGER);\n",
+    )?;
+    let table = named(alloc, b"t")?;
+    let values = mixed(alloc)?;
+    let refusal = Refusal::CertainKey {
+        key: 1,
+        table,
+        low: 1,
+        high: 2,
+        values,
+    };
+    assert_told(
+        &rt,
+        alloc,
+        Reply::Refused(refusal),
+        b"refused: certain key 1 of t: rows 1 and 2 agree in the completion (-9223372036854775808, NULL, 'O''Hara')\n",
+    )
+}
+
+#[test]
+fn keys_are_told(rt: HostRuntime) -> Result<(), Fail> {
+    let alloc = rt.alloc();
+    let set = ColSet::empty().with(2).with(0);
+    let rules = Items::from_vec(vec![in alloc;
+        Rule::Declared { key: 1 },
+        Rule::Strengthen,
+        Rule::Extend { to: set },
+    ]?);
+    assert_told(
+        &rt,
+        alloc,
+        Reply::Implied { key: 1, rules },
+        b"implied by key 1 by strengthening, extension\n",
+    )?;
+    let certain = KeyDecl {
+        sort: Sort::Certain,
+        columns: set,
+    };
+    let possible = KeyDecl {
+        sort: Sort::Possible,
+        columns: ColSet::empty(),
+    };
+    let columns = header(alloc, b"a b c")?;
+    let keys = Items::from_vec(vec![in alloc; certain, possible]?);
+    assert_told(
+        &rt,
+        alloc,
+        Reply::Cover { columns, keys },
+        b"CERTAIN KEY (a, c)\nPOSSIBLE KEY ()\nkeys 2\n",
+    )?;
+    let columns = header(alloc, b"a b c")?;
+    let low = mixed(alloc)?;
+    let case = Example {
+        sort: Sort::Possible,
+        columns: set,
+        low,
+        high: Row::make(Vec::new(alloc)),
+    };
+    let cases = Items::from_vec(vec![in alloc; case]?);
+    assert_told(
+        &rt,
+        alloc,
+        Reply::Examples { columns, cases },
+        b"not possible (a, c): rows (-9223372036854775808, NULL, 'O''Hara') and ()\nexamples 1\n",
+    )?;
+    let columns = header(alloc, b"a b c")?;
+    let reply = Reply::Discovered {
+        columns,
+        certain: Items::from_vec(Vec::new(alloc)),
+        possible: Items::from_vec(vec![in alloc; set]?),
+    };
+    assert_told(&rt, alloc, reply, b"certain none\npossible (a, c)\n")
 }

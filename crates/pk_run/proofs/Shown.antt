@@ -8,7 +8,7 @@ use Rattle.pk_values.specs.declared.refusal.Refusal.{Refusal}
 use Rattle.pk_values.specs.declared.refusal.Refusal.TheVariants.{NoTable}
 use Rattle.pk_parse.specs.declared.statement.Literal.{Literal}
 use Rattle.pk_report.specs.declared.reply.Reply.{Reply}
-use Rattle.pk_report.specs.declared.reply.Reply.TheVariants.{Created, Inserted, Selected, Refused}
+use Rattle.pk_report.specs.declared.reply.Reply.TheVariants.{Selected, Refused}
 use Rattle.pk_engine.specs.Base.{Base, Table, is_named, table_named, with_rows, put_rows}
 use Rattle.pk_engine.specs.State.{State, current, with_commit, Changed}
 use Rattle.pk_engine.specs.Answer.{table_of, selected_of, no_table, unless_found, first_some, refused_or, answer, answer_select, stored_value, placed_from}
@@ -81,15 +81,11 @@ values_placed id (row ∷ rows) = ap (λ (rest : List (List Value)). map stored_
 
 header_of : Reply → List (List ℕ)
 header_of (Selected header rows) = header
-header_of (Created table) = []
-header_of (Inserted n) = []
-header_of (Refused r) = []
+header_of _ = []
 
 rows_of : Reply → List (List Value)
 rows_of (Selected header rows) = rows
-rows_of (Created table) = []
-rows_of (Inserted n) = []
-rows_of (Refused r) = []
+rows_of _ = []
 
 refusal_shows_nothing : (r : Refusal) (header : List (List ℕ)) (rows : List (List Value)) → Refused r ≡ Selected header rows → ⊥
 refusal_shows_nothing r header rows e = cc

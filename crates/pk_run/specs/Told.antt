@@ -7,7 +7,7 @@ use Rattle.pk_lex.specs.Pieces.{pieces}
 use Rattle.pk_parse.specs.declared.statement.Statement.{Statement}
 use Rattle.pk_parse.specs.Parsed.{parsed}
 use Rattle.pk_report.specs.declared.reply.Reply.{Reply}
-use Rattle.pk_report.specs.declared.reply.Reply.TheVariants.{Created, Inserted, Selected, Refused}
+use Rattle.pk_report.specs.declared.reply.Reply.TheVariants.{Refused}
 use Rattle.pk_report.specs.Text.{text}
 use Rattle.pk_engine.specs.Base.{Base}
 use Rattle.pk_engine.specs.State.{State, started}
@@ -42,9 +42,7 @@ told b script = told_by (run (started b) (pieces script))
 
 abbrev pub is_refusal : Reply → Bool
 is_refusal (Refused r) = true
-is_refusal (Created table) = false
-is_refusal (Inserted n) = false
-is_refusal (Selected header rows) = false
+is_refusal _ = false
 
 -- some reply is a refusal
 abbrev pub has_refusal : List Step → Bool

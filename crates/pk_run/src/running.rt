@@ -121,8 +121,5 @@ fn not_statement(line: u64) -> Reply
 fn is_refusal(reply: &Reply) -> bool
     ensures { result ≡ is_refusal reply.now }
 {
-    match reply {
-        Reply::Refused(_) => true,
-        Reply::Created { .. } | Reply::Inserted { .. } | Reply::Selected { .. } => false,
-    }
+    matches!(reply, Reply::Refused(_))
 }

@@ -1,4 +1,5 @@
-ghost use Rattle.std.specs.Prelude.{◌≡◌, ◌≤◌, ◌<◌, Some, length, vec_len, IfOk, slice_get};
+ghost use Rattle.std.specs.Prelude.{◌≡◌, ◌≤◌, ◌<◌, Some, length, vec_len, IfOk, slice_get, slice_set};
+ghost use Rattle.pk_values.specs.Records.{row_record};
 ghost use Rattle.pk_values.specs.declared.row.TheConstants.{MOST_COLUMNS};
 
 use crate::memory::Memory;
@@ -51,6 +52,43 @@ impl Row {
         ensures { slice_get self.now c ≡ Some result.now }
     {
         &self.values[c as usize]
+    }
+
+    /// The values, in the order of the columns.
+    pub fn as_slice(&self) -> &[Value]
+        ensures values { result.now ≡ self.now }
+        ensures most { length result.now ≤ MOST_COLUMNS }
+    {
+        self.values.as_slice()
+    }
+
+    /// The values again as a `Vec`.
+    pub fn into_values(self) -> Vec<Value>
+        ensures values { result.items ≡ self }
+        ensures most { vec_len result ≤ MOST_COLUMNS }
+    {
+        let Row { values } = self;
+        values
+    }
+
+    /// Puts the value into column `c`, counted from 0.
+    pub fn set(&mut self, c: u32, value: Value)
+        requires { c < length self.old }
+        ensures { self.new ≡ slice_set self.old c value }
+    {
+        self.values[c as usize] = value;
+    }
+
+    /// How many bytes files keep the row in: those of its values, at most 8,224.
+    pub fn record_len(&self) -> u32
+        ensures bytes { result ≡ length (row_record self.now) }
+        ensures most { result ≤ 8224 }
+    {
+        let mut bytes = 0;
+        for value in &self.values {
+            bytes += value.record_len();
+        }
+        bytes
     }
 
     /// An equal row.
