@@ -1,0 +1,5 @@
+pub mod EntryLemmas
+pub mod PairLemmas
+pub mod RowLemmas
+pub mod TableLemmas
+pub mod WalkLemmas

@@ -1,0 +1,26 @@
+use Rattle.std.proofs.Common.{sym, ◌∙◌}
+use Rattle.pk_similar.proofs.WalkLemmas.{weak_on, weak_off, weak_none, below_rest, walk_on, walk_shorter}
+use Rattle.pk_similar.proofs.similarity.weak.Goals as goal
+
+-- the first column that decides
+pub returns-then-not-may_be_equal : goal.returns-then-not-may_be_equal
+returns-then-not-may_be_equal c =
+    weak_off _ _ _ _ _ _ _ c.in-Some.ensures.least.1 c.value.ensures c.value-in-Some.ensures (sym c.may_be_equal.ensures ∙ c.if-not-may_be_equal.true)
+    ∙ c.loop-c.invariant.decides
+
+pub loop-c-preserved : goal.loop-c-preserved
+loop-c-preserved c =
+    let split = walk_on _ _ _ c.in-Some.ensures.least c.without-rest.ensures.members in
+    record {
+      decides =
+          weak_on _ _ _ _ _ _ _ split c.value.ensures c.value-in-Some.ensures (sym c.may_be_equal.ensures ∙ c.if-not-may_be_equal.false)
+          ∙ c.loop-c.invariant.decides;
+      a_wide = below_rest _ _ _ _ c.loop-c.invariant.a_wide split;
+      b_wide = below_rest _ _ _ _ c.loop-c.invariant.b_wide split;
+    }
+
+pub loop-c-smaller : goal.loop-c-smaller
+loop-c-smaller c = walk_shorter _ _ _ (walk_on _ _ _ c.in-Some.ensures.least c.without-rest.ensures.members)
+
+pub returns : goal.returns
+returns c = weak_none _ _ _ c.in_default.ensures.least ∙ c.loop-c.invariant.decides
