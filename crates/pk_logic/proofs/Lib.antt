@@ -1,0 +1,7 @@
+pub mod Filling
+pub mod KindLemmas
+pub mod Layers
+pub mod Members
+pub mod RowLemmas
+pub mod TableLemmas
+pub mod TruthLemmas

@@ -1,0 +1,5 @@
+use Rattle.pk_logic.proofs.RowLemmas.{value_read}
+use Rattle.pk_logic.proofs.judging.entry.Goals as goal
+
+pub returns : goal.returns
+returns c = value_read c.args.row.now c.args.column c.value.result.now c.value.ensures

@@ -1,0 +1,4 @@
+pub mod Conditions
+pub mod Kinds
+pub mod Laws
+pub mod Truth
