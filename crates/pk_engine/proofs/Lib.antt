@@ -1,4 +1,5 @@
 pub mod ListLemmas
+pub mod InsertLemmas
 pub mod TableLemmas
 pub mod RefusalLemmas
 pub mod StandsLemmas

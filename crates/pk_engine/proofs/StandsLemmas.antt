@@ -4,18 +4,25 @@ use Rattle.std.specs.List.{position}
 use Rattle.std.specs.Result.{IsOk, IsErr}
 use Rattle.std.proofs.lemmas.List.Sums.{sum_by-insert, sum_by-set}
 use Rattle.std.proofs.lemmas.List.{get_or_default}
-use Rattle.pk_parse.specs.declared.statement.Literal.{Literal}
-use Rattle.pk_parse.specs.declared.statement.Insert.{Insert}
-use Rattle.pk_parse.specs.declared.statement.TableDecl.{TableDecl}
+use Rattle.pk_parse.specs.declared.declaration.ColumnDecl.{ColumnDecl}
+use Rattle.pk_parse.specs.declared.declaration.TableDecl.{TableDecl}
+use Rattle.pk_parse.specs.declared.edit.Insert.{Insert}
+use Rattle.pk_values.specs.declared.value.Value.{Value}
+use Rattle.pk_values.specs.declared.refusal.Refusal.{Refusal}
+use Rattle.pk_values.specs.declared.refusal.Refusal.TheVariants.{NoTable}
+use Rattle.pk_report.specs.declared.reply.Reply.TheVariants.{Refused}
+use Rattle.std.proofs.lemmas.List.{length-map}
 use Rattle.pk_values.specs.declared.placed.Placed.{Placed}
 use Rattle.pk_engine.specs.Base.{Base, Table, IsInNameOrder, with_table, table_named, is_named, with_rows, put_rows}
 use Rattle.pk_engine.specs.State.{State, Commit, Made, Changed, current, after, committed, tables_after, with_commit, made_table}
-use Rattle.pk_engine.specs.Answer.{first_some, unless_found, if_found, create_refusals, table_exists, insert_refusals, no_table, value_count, table_of, new_rows, placed_from, miscounted}
+use Rattle.pk_engine.specs.Refusing.{first_some, decided, table_of}
+use Rattle.pk_engine.specs.Create.{if_found, table_exists, create_refusals}
+use Rattle.pk_engine.specs.Insert.{insert_refusals, insert_faults, inserted, new_rows, placed_from, made_row, sources, targets}
 use Rattle.pk_engine.specs.Stands.{StandsFor, base_of}
 use Rattle.pk_engine.specs.declared.engine.Engine.{Engine}
 use Rattle.pk_engine.specs.Place.{IsPlaceOf}
 use Rattle.pk_engine.proofs.ListLemmas.{first_place}
-use Rattle.pk_engine.proofs.RefusalLemmas.{create_new, insert_counted}
+use Rattle.pk_engine.proofs.RefusalLemmas.{create_new, decided_refused, decided_done}
 use Rattle.pk_engine.proofs.OrderLemmas.{order_with, order_put}
 use Rattle.pk_engine.proofs.TableLemmas.{with_table_place, put_rows_place, named_at, none_named}
 
@@ -104,22 +111,6 @@ made_stands e n st d r place stands new at absent commit tables rows =
 
 -- ---- rows put into a table
 
-length-placed_from : (id : ℕ) (rows : List (List Literal)) → length (placed_from id rows) ≡ length rows
-length-placed_from id [] = refl
-length-placed_from id (row ∷ rows) = ap suc (length-placed_from (id + 1) rows)
-
-found_step : (name : List ℕ) (ts : List Table) (r : Result ℕ ℕ) → unless_found name (table_named name ts) ≡ None → IsPlaceOf name ts r → IsOk r
-found_step name ts (Ok i) free at = search rules
-found_step name ts (Err i) free at =
-    let missing = rw (none_named name ts at.0) at free in
-    absurd (cc missing)
-
--- where the base has a table of a name, a search for it finds it
-pub there_found : (e : Engine) (st : State) (name : List ℕ) (r : Result ℕ ℕ) → StandsFor e st → no_table st name ≡ None
-    → (IsInNameOrder e.tables.items → IsPlaceOf name e.tables.items r) → IsOk r
-unfolding no_table
-there_found e st name r stands there place = found_step name e.tables.items r (rw (stands_tables e st stands) at there) (place (stands_order e st stands))
-
 -- the table that a search found
 pub table_found : (e : Engine) (st : State) (name : List ℕ) (r : Result ℕ ℕ) (place : ℕ) (t : Table) → StandsFor e st
     → (IsInNameOrder e.tables.items → IsPlaceOf name e.tables.items r) → r ≡ Ok place → t ≡ get_or e.tables.items place t
@@ -136,16 +127,6 @@ table_absent e st name r place stands at absent =
     let at_place = rw absent at (at (stands_order e st stands)) in
     rw (stands_tables e st stands) (none_named name e.tables.items at_place.0)
 
--- the tuples of an INSERT that isn't refused have as many literals as the table columns
-pub insert_fits : (e : Engine) (st : State) (i : Insert) (r : Result ℕ ℕ) (place : ℕ) (t : Table) → StandsFor e st → first_some (insert_refusals st i) ≡ None
-    → (IsInNameOrder e.tables.items → IsPlaceOf i.table e.tables.items r) → r ≡ Ok place → t ≡ get_or e.tables.items place t
-    → miscounted (length t.columns) i.rows ≡ None
-unfolding value_count
-insert_fits e st i r place t stands free at found is =
-    let there = table_found e st i.table r place t stands at found is in
-    let fits = insert_counted st i free in
-    rw there at fits
-
 put_at : (name : List ℕ) (ts : List Table) (place : ℕ) (t : Table) (rows : List Placed) → position (is_named name) ts ≡ Some place → t ≡ get_or ts place t
     → put_rows name rows ts ≡ set ts place (with_rows rows t)
 put_at name ts place t rows at is =
@@ -161,22 +142,65 @@ sum_put name ts place t rows at is =
     let same : length (get_or ts place t).rows ≡ length t.rows = ap (λ (u : Table). length u.rows) (sym is) in
     rw (put_at name ts place t rows at is) (omega (arith, counted, same, length-append t.rows rows))
 
--- an engine that has put the rows of an INSERT at its table's end
-pub changed_stands : (e n : Engine) (st : State) (i : Insert) (r : Result ℕ ℕ) (place : ℕ) (t : Table) → StandsFor e st
-    → (IsInNameOrder e.tables.items → IsPlaceOf i.table e.tables.items r) → r ≡ Ok place → t ≡ get_or e.tables.items place t
+-- the table at the place of a name
+pub table_at : (e : Engine) (st : State) (name : List ℕ) (place : ℕ) (t : Table) → StandsFor e st
+    → position (is_named name) e.tables.items ≡ Some place → t ≡ get_or e.tables.items place t → table_of st name ≡ Some t
+table_at e st name place t stands at is = rw (stands_tables e st stands) (named_at name e.tables.items place t at is)
+
+-- an engine that has put rows at the end of a table
+pub changed_stands : (e n : Engine) (st : State) (name : List ℕ) (place : ℕ) (t : Table) (rows : List Placed) → StandsFor e st
+    → position (is_named name) e.tables.items ≡ Some place → t ≡ get_or e.tables.items place t
     → n.commit ≡ e.commit + 1
-    → n.tables.items ≡ set e.tables.items place (with_rows (placed_from t.next i.rows) t)
-    → n.rows ≡ e.rows + length i.rows
-    → StandsFor n (with_commit st (Changed ((i.table, new_rows st i) ∷ [])))
-changed_stands e n st i r place t stands at found is commit tables rows =
+    → n.tables.items ≡ set e.tables.items place (with_rows rows t)
+    → n.rows ≡ e.rows + length rows
+    → StandsFor n (with_commit st (Changed ((name, rows) ∷ [])))
+changed_stands e n st name place t rows stands at is commit tables counted_rows =
     let ts = e.tables.items in
-    let new = placed_from t.next i.rows in
     let order = stands_order e st stands in
-    let at_place = rw found at (at order) in
-    let put = put_at i.table ts place t new at_place is in
-    let counted = sum_put i.table ts place t new at_place is in
+    let put = put_at name ts place t rows at is in
+    let counted = sum_put name ts place t rows at is in
     let before = stands_rows e st stands in
-    rw (table_found e st i.table r place t stands at found is) (commit_stands e n st (Changed ((i.table, new) ∷ [])) stands commit
+    commit_stands e n st (Changed ((name, rows) ∷ [])) stands commit
     (tables ∙ sym put)
-    (omega (arith, rows, counted, before, length-placed_from t.next i.rows))
-    (order_put i.table new ts order))
+    (omega (arith, counted_rows, counted, before))
+    (order_put name rows ts order)
+
+-- ---- the answer to INSERT
+
+-- where the table stands at a place, what its columns refuse is what INSERT is refused for
+pub insert_found : (e : Engine) (st : State) (i : Insert) (place : ℕ) (t : Table) → StandsFor e st
+    → position (is_named i.table) e.tables.items ≡ Some place → t ≡ get_or e.tables.items place t
+    → insert_refusals st i ≡ insert_faults t.columns i
+insert_found e st i place t stands at is = rw (table_at e st i.table place t stands at is) refl
+
+-- what the columns refuse is the answer, and the state stays
+pub insert_refused : (e : Engine) (st : State) (i : Insert) (place : ℕ) (t : Table) (r : Refusal) → StandsFor e st
+    → position (is_named i.table) e.tables.items ≡ Some place → t ≡ get_or e.tables.items place t → first_some (insert_faults t.columns i) ≡ Some r
+    → (Refused r ≡ (decided st (insert_refusals st i) (inserted st i)).reply) × ((decided st (insert_refusals st i) (inserted st i)).next ≡ st)
+insert_refused e st i place t r stands at is refused =
+    let first = ap first_some (insert_found e st i place t stands at is) ∙ refused in
+    let answer = decided_refused st (insert_refusals st i) (inserted st i) r first in
+    (sym answer.0, answer.1)
+
+-- where they refuse nothing, what is done is the answer
+pub insert_done : (e : Engine) (st : State) (i : Insert) (place : ℕ) (t : Table) → StandsFor e st
+    → position (is_named i.table) e.tables.items ≡ Some place → t ≡ get_or e.tables.items place t → first_some (insert_faults t.columns i) ≡ None
+    → decided st (insert_refusals st i) (inserted st i) ≡ inserted st i
+insert_done e st i place t stands at is free =
+    decided_done st (insert_refusals st i) (inserted st i) (ap first_some (insert_found e st i place t stands at is) ∙ free)
+
+-- where no table has the name, that is the answer
+pub insert_absent : (e : Engine) (st : State) (i : Insert) (r : Result ℕ ℕ) (place : ℕ) → StandsFor e st
+    → (IsInNameOrder e.tables.items → IsPlaceOf i.table e.tables.items r) → r ≡ Err place
+    → first_some (insert_refusals st i) ≡ Some (NoTable i.table)
+insert_absent e st i r place stands at absent = rw (table_absent e st i.table r place stands at absent) refl
+
+length-placed_from : (id : ℕ) (rows : List (List Value)) → length (placed_from id rows) ≡ length rows
+length-placed_from id [] = refl
+length-placed_from id (row ∷ rows) = ap suc (length-placed_from (id + 1) rows)
+
+-- an INSERT puts one row for each tuple
+pub length-new_rows : (columns : List ColumnDecl) (i : Insert) (id : ℕ) → length (placed_from id (new_rows columns i)) ≡ length i.rows
+unfolding new_rows
+length-new_rows columns i id =
+    length-placed_from id (new_rows columns i) ∙ length-map i.rows (made_row (sources columns (targets columns i.columns)))

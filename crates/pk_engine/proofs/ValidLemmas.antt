@@ -1,27 +1,28 @@
-use Rattle.std.proofs.Common.{◌≡◌, ℕ, ◌+◌, Bool, true, false, List, [], ◌∷◌, ◌++◌, Option, Some, None, length, if◌then◌else◌, refl, suc, subst, take, drop, ◌==◌, arith, ◌∙◌, All}
+use Rattle.std.proofs.Common.{◌≡◌, ℕ, ◌+◌, Bool, true, false, List, [], ◌∷◌, ◌++◌, Option, Some, None, length, if◌then◌else◌, refl, suc, subst, take, drop, ◌==◌, arith, ◌∙◌, sym, All}
 use Rattle.std.specs.List.{AllByRecursion, position_or_len}
 use Rattle.std.specs.List.Sorted.{IsStrictlySortedBy}
 use Rattle.std.proofs.lemmas.List.Elements.{All-nil, All-cons, All-append, All-take, All-drop, All-from_recursion, recursion_from_All}
 use Rattle.std.proofs.lemmas.List.{length-map}
-use borrow.Author.Tests.{eqb-true}
-use Rattle.pk_values.specs.declared.refusal.Refusal.TheVariants.{ValueCount}
+use Rattle.pk_values.specs.declared.value.Value.{Value}
 use Rattle.pk_values.specs.declared.placed.Placed.{Placed}
 use Rattle.pk_values.specs.declared.refusal.Refusal.{Refusal}
-use Rattle.pk_parse.specs.declared.statement.ColumnDecl.{ColumnDecl}
-use Rattle.pk_parse.specs.declared.statement.Literal.{Literal}
-use Rattle.pk_parse.specs.declared.statement.TableDecl.{TableDecl}
-use Rattle.pk_parse.specs.declared.statement.Insert.{Insert}
-use Rattle.pk_parse.specs.declared.statement.Select.{Select}
+use Rattle.pk_parse.specs.declared.declaration.ColumnDecl.{ColumnDecl}
+use Rattle.pk_parse.specs.declared.literal.Literal.{Literal}
+use Rattle.pk_parse.specs.declared.declaration.TableDecl.{TableDecl}
+use Rattle.pk_parse.specs.declared.edit.Insert.{Insert}
 use Rattle.pk_parse.specs.declared.statement.Statement.{Statement}
-use Rattle.pk_parse.specs.declared.statement.Statement.TheVariants.{Create, Insert as InsertInto, Select as SelectFrom}
+use Rattle.pk_parse.specs.declared.statement.Statement.TheVariants.{Create, Insert as InsertInto}
 use Rattle.pk_engine.specs.Base.{Table, empty_base, is_named, comes_before, table_named, with_table, with_rows, put_rows}
 use Rattle.pk_engine.specs.State.{State, Commit, Made, Changed, made_table, current, committed, with_commit}
-use Rattle.pk_engine.specs.Answer.{Step, first_some, refused_or, decided, table_exists, stored_value, no_table, value_count, create_refusals, created, insert_refusals, inserted, select_refusals, selected, miscounted, placed_from, new_rows, answer_create, answer_insert, answer_select, answer}
+use Rattle.pk_engine.specs.Refusing.{Step, first_some, refused_or, decided, table_of}
+use Rattle.pk_engine.specs.Create.{table_exists, create_refusals, created}
+use Rattle.pk_engine.specs.Insert.{inserted, placed_from, placed_rows, new_rows, made_row, made_rows, sources, given, place_of_column, targets}
+use Rattle.pk_engine.specs.Answer.{refusals, done, answer}
 use Rattle.pk_engine.specs.Valid.{IdsRise, IsValidTable, IsValid}
 use Rattle.pk_engine.proofs.OrderLemmas.{order_with, order_put}
 use Rattle.pk_engine.proofs.TableLemmas.{with_table_place}
 use Rattle.pk_engine.proofs.StandsLemmas.{after_more, new_step}
-use Rattle.pk_engine.proofs.RefusalLemmas.{create_new, insert_counted}
+use Rattle.pk_engine.proofs.RefusalLemmas.{create_new}
 
 -- ---- a table made
 
@@ -62,29 +63,32 @@ rise_append least mid next [] [] low high = omega arith
 rise_append least mid next [] (q ∷ qs) low high = (omega (arith, low, high.0), high.1)
 rise_append least mid next (p ∷ ps) qs low high = (low.0, rise_append (p.id + 1) mid next ps qs low.1 high)
 
-placed_rise : (id : ℕ) (rows : List (List Literal)) → IdsRise id (placed_from id rows) (id + length (placed_from id rows))
+placed_rise : (id : ℕ) (rows : List (List Value)) → IdsRise id (placed_from id rows) (id + length (placed_from id rows))
 placed_rise id [] = omega arith
 placed_rise id (row ∷ rows) =
     let n = length (placed_from (id + 1) rows) in
     let same : id + 1 + n ≡ id + suc n = omega arith in
     (omega arith, subst (λ (next : ℕ). IdsRise (id + 1) (placed_from (id + 1) rows) next) same (placed_rise (id + 1) rows))
 
-fits_head : (b : Bool) (r : Refusal) (rest : Option Refusal) → if b then rest else Some r ≡ None → (b ≡ true) × (rest ≡ None)
-fits_head true r rest none = (refl, none)
-fits_head false r rest none = absurd (cc)
+placed_wide : (columns listed : List ColumnDecl) (id : ℕ) (rows : List (List Literal))
+    → AllByRecursion (λ p. length p.row ≡ length columns) (placed_from id (made_rows columns listed rows))
+unfolding made_row
+placed_wide columns listed id [] = tt
+placed_wide columns listed id (row ∷ rows) = (
+  length-map (sources columns listed) (given row) ∙ length-map columns (λ (c : ColumnDecl). place_of_column listed c.name),
+  placed_wide columns listed (id + 1) rows,
+)
 
-placed_wide : (columns id : ℕ) (rows : List (List Literal)) → miscounted columns rows ≡ None → AllByRecursion (λ p. length p.row ≡ columns) (placed_from id rows)
-placed_wide columns id [] fits = tt
-placed_wide columns id (row ∷ rows) fits =
-    let w = fits_head (length row == columns) (ValueCount (length row) columns) (miscounted columns rows) fits in
-    (length-map row stored_value ∙ eqb-true (length row) columns w.0, placed_wide columns (id + 1) rows w.1)
-
-put_valid : (t : Table) (rows : List (List Literal)) → miscounted (length t.columns) rows ≡ None → IsValidTable t → IsValidTable (with_rows (placed_from t.next rows) t)
-put_valid t rows fits valid = record {
-  ids = rise_append 1 t.next (t.next + length (placed_from t.next rows)) t.rows (placed_from t.next rows) valid.ids (placed_rise t.next rows);
-  widths = All-append (λ (p : Placed). length p.row ≡ length t.columns) t.rows (placed_from t.next rows) valid.widths
-      (All-from_recursion (λ (p : Placed). length p.row ≡ length t.columns) (placed_from t.next rows) (placed_wide (length t.columns) t.next rows fits));
-}
+put_valid : (t : Table) (i : Insert) → IsValidTable t → IsValidTable (with_rows (placed_from t.next (new_rows t.columns i)) t)
+unfolding new_rows
+put_valid t i valid =
+    let rows = new_rows t.columns i in
+    record {
+      ids = rise_append 1 t.next (t.next + length (placed_from t.next rows)) t.rows (placed_from t.next rows) valid.ids (placed_rise t.next rows);
+      widths = All-append (λ (p : Placed). length p.row ≡ length t.columns) t.rows (placed_from t.next rows) valid.widths
+          (All-from_recursion (λ (p : Placed). length p.row ≡ length t.columns) (placed_from t.next rows)
+          (placed_wide t.columns (targets t.columns i.columns) t.next i.rows));
+    }
 
 -- ---- answers
 
@@ -100,34 +104,32 @@ valid_commit : (st : State) (c : Commit) → IsValid (committed (current st) c) 
 unfolding current
 valid_commit st c valid = rw (after_more st.start st.commits c) valid
 
-create_valid : (st : State) (d : TableDecl) → IsValid (current st) → IsValid (current (answer_create st d).next)
-unfolding answer_create table_exists
-create_valid st d valid = valid_decided st (create_refusals st d) (created st d) valid (λ free.
+create_valid : (st : State) (d : TableDecl) → IsValid (current st) → first_some (create_refusals st d) ≡ None → IsValid (current (created st d).next)
+unfolding table_exists
+create_valid st d valid free =
     let ts = (current st).tables in
     let new = new_step d.table (table_named d.table ts) (create_new st d free) in
     valid_commit st (Made d.table d.columns) record {
       names = order_with (made_table d.table d.columns) ts valid.names new;
       tables = tables_with (made_table d.table d.columns) ts (made_valid d.table d.columns) valid.tables;
-    })
+    }
 
-insert_valid : (st : State) (i : Insert) → IsValid (current st) → IsValid (current (answer_insert st i).next)
-unfolding answer_insert no_table value_count
-insert_valid st i valid = valid_decided st (insert_refusals st i) (inserted st i) valid (λ free.
+insert_valid : (st : State) (i : Insert) → IsValid (current st) → IsValid (current (inserted st i).next)
+insert_valid st i valid =
     let ts = (current st).tables in
-    let rows = new_rows st i in
-    let fits = insert_counted st i free in
+    let rows = placed_rows (table_of st i.table) i in
     valid_commit st (Changed ((i.table, rows) ∷ [])) record {
       names = order_put i.table rows ts valid.names;
       tables = All-from_recursion IsValidTable (put_rows i.table rows ts) (tables_put i.table rows ts (recursion_from_All IsValidTable ts valid.tables)
-          (λ t at good. rw at (put_valid t i.rows (rw at at fits) good)));
-    })
+          (λ t at good. subst (λ (o : Option Table). IsValidTable (with_rows (placed_rows o i) t)) (sym at) (put_valid t i good)));
+    }
 
-select_valid : (st : State) (s : Select) → IsValid (current st) → IsValid (current (answer_select st s).next)
-unfolding answer_select
-select_valid st s valid = valid_decided st (select_refusals st s) (selected st s) valid (λ free. valid)
+done_valid : (st : State) (s : Statement) → IsValid (current st) → first_some (refusals st s) ≡ None → IsValid (current (done st s).next)
+unfolding refusals done
+done_valid st (Create d) valid free = create_valid st d valid free
+done_valid st (InsertInto i) valid free = insert_valid st i valid
+done_valid st _ valid free = valid
 
 pub answer_valid : (st : State) (s : Statement) → IsValid (current st) → IsValid (current (answer st s).next)
 unfolding answer
-answer_valid st (Create d) valid = create_valid st d valid
-answer_valid st (InsertInto i) valid = insert_valid st i valid
-answer_valid st (SelectFrom s) valid = select_valid st s valid
+answer_valid st s valid = valid_decided st (refusals st s) (done st s) valid (done_valid st s valid)

@@ -4,7 +4,7 @@ use Rattle.std.specs.Ordering.{nat_cmp, is_lt}
 use Rattle.std.specs.Cmp.Lexicographic.{slice_cmp}
 use Rattle.std.specs.List.Sorted.{IsStrictlySortedBy}
 use Rattle.pk_values.specs.declared.placed.Placed.{Placed}
-use Rattle.pk_parse.specs.declared.statement.ColumnDecl.{ColumnDecl}
+use Rattle.pk_parse.specs.declared.declaration.ColumnDecl.{ColumnDecl}
 
 -- a table: its rows stand in ascending order of their ids, and each id is below the next one
 pub record Table : Type 0 where

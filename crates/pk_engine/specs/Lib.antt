@@ -1,7 +1,11 @@
 pub mod Base
 pub mod Place
 pub mod State
-pub mod Plain
+pub mod Refusing
+pub mod Create
+pub mod Insert
+pub mod Insertion
+pub mod Select
 pub mod Answer
 pub mod Stands
 pub mod Valid

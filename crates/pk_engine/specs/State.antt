@@ -1,7 +1,7 @@
 use Rattle.std.specs.Prelude.{ℕ, ◌+◌, List, [], ◌∷◌, ◌++◌, codes}
 use Rattle.pk_values.specs.declared.placed.Placed.{Placed}
 use Rattle.pk_values.specs.declared.value.Value.{Value}
-use Rattle.pk_parse.specs.declared.statement.ColumnDecl.{ColumnDecl}
+use Rattle.pk_parse.specs.declared.declaration.ColumnDecl.{ColumnDecl}
 use Rattle.pk_engine.specs.Base.{Base, Table, with_table, put_rows}
 
 -- what a commit did: it made a table with these columns, or put rows into tables, each named

@@ -8,7 +8,6 @@ use std::alloc::Global;
 
 mod create;
 mod insert;
-mod refusals;
 mod select;
 
 /// The base, and the answers to statements over it.
@@ -27,9 +26,9 @@ impl Engine {
     ghost use Rattle.pk_engine.specs.Base.{empty_base, row_count, IsInNameOrder};
     ghost use Rattle.pk_engine.specs.Place.{IsPlaceOf};
     ghost use Rattle.pk_engine.specs.State.{State, started, current};
-    ghost use Rattle.pk_engine.specs.Answer.{answer, table_of};
-    ghost use Rattle.pk_engine.specs.Plain.{is_plain};
-    ghost use Rattle.pk_engine.specs.Stands.{StandsFor};
+    ghost use Rattle.pk_engine.specs.Answer.{answer, is_answered};
+    ghost use Rattle.pk_engine.specs.Refusing.{table_of};
+    ghost use Rattle.pk_engine.specs.Stands.{StandsFor, Replies, Moves};
 
     /// The engine of the empty base.
     #[tactic(auto, using(crate::proofs::OrderLemmas::order_empty), unfolding(crate::specs::Stands::StandsFor, crate::specs::State::current, crate::specs::State::after))]
@@ -44,19 +43,32 @@ impl Engine {
         }
     }
 
-    /// Answers a statement. A refusal is a reply, and leaves the base as it was. After an `Err`
-    /// nothing is claimed of the engine.
-    #[tactic(auto, unfolding(crate::specs::Answer::answer, crate::specs::Plain::is_plain))]
+    /// Answers a statement that is one of those answered yet. A refusal is a reply, and leaves the base
+    /// as it was. After an `Err` nothing is claimed of the engine.
+    #[tactic(auto, unfolding(crate::specs::Answer::answer, crate::specs::Answer::refusals, crate::specs::Answer::done, crate::specs::Answer::is_answered))]
     pub fn step(&mut self, statement: &Statement) -> Result<Reply, Memory>
-        requires plain { IsTrue (is_plain statement.now) }
+        requires answered { IsTrue (is_answered statement.now) }
         requires stands { (st : State) × StandsFor self.old st }
-        ensures reply { IfOk result (λ r. (st : State) → StandsFor self.old st → r ≡ (answer st statement.now).reply) }
-        ensures next { IfOk result (λ _. (st : State) → StandsFor self.old st → StandsFor self.new (answer st statement.now).next) }
+        ensures reply { IfOk result (λ r. Replies (λ st. answer st statement.now) self.old r) }
+        ensures next { IfOk result (λ _. Moves (λ st. answer st statement.now) self.old self.new) }
     {
         match statement {
             Statement::Create(declared) => self.create(declared),
             Statement::Insert(insert) => self.insert(insert),
             Statement::Select(select) => self.select(select),
+            Statement::Drop { .. }
+            | Statement::Update(_)
+            | Statement::Delete(_)
+            | Statement::Begin
+            | Statement::Commit
+            | Statement::Rollback
+            | Statement::Session { .. }
+            | Statement::Show { .. }
+            | Statement::Implies { .. }
+            | Statement::Cover { .. }
+            | Statement::Examples { .. }
+            | Statement::Discover { .. }
+            | Statement::Checkpoint => unreachable!(),
         }
     }
 

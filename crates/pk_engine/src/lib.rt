@@ -4,7 +4,10 @@
 #![tactic(auto)]
 
 mod engine;
+mod faults;
+mod insertion;
 mod laws;
+mod named;
 mod table;
 
 pub use engine::Engine;

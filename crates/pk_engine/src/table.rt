@@ -1,8 +1,8 @@
-ghost use Rattle.std.specs.Prelude.{◌≡◌, ◌≤◌, [], ◌∷◌, length, map, IfOk, OnOk, None};
+ghost use Rattle.std.specs.Prelude.{◌≡◌, ◌≤◌, [], ◌∷◌, length, map, IfOk, OnOk};
 ghost use Rattle.pk_values.specs.declared.row.TheConstants.{MOST_COLUMNS};
-ghost use Rattle.pk_engine.specs.Answer.{stored_value};
 
-use pk_parse::{ColumnDecl, Literal};
+use crate::insertion::{Outcome, insertion};
+use pk_parse::{ColumnDecl, Insert};
 use pk_values::{Items, Memory, Name, Placed, Row, Value};
 use std::alloc::Global;
 use std::cmp::Ordering;
@@ -35,7 +35,8 @@ impl Stored {
     ghost use Rattle.std.specs.Cmp.Lexicographic.{slice_cmp};
     ghost use Rattle.pk_engine.specs.Base.{with_rows};
     ghost use Rattle.pk_engine.specs.State.{made_table};
-    ghost use Rattle.pk_engine.specs.Answer.{miscounted, placed_from};
+    ghost use Rattle.pk_engine.specs.Insert.{insert_faults, new_rows, placed_from};
+    ghost use Rattle.pk_engine.specs.Insertion.{IsDecided};
 
     /// A new table, without a row.
     pub fn make(alloc: Global, name: Name, columns: Items<ColumnDecl>) -> Stored
@@ -82,32 +83,36 @@ impl Stored {
         let alloc = *self.rows.allocator();
         let mut rows = Vec::with_capacity(alloc, self.rows.len())?;
         for placed in &self.rows {
-            rows.push(values_of(alloc, &placed.row)?)?;
+            rows.push(values_of(&placed.row)?)?;
         }
         Ok(Items::from_vec(rows))
     }
 
-    /// Puts rows of these values at the end, each under the next id.
-    pub fn put(&mut self, rows: &[Items<Literal>]) -> Result<(), Memory>
-        requires { miscounted (length self.old.columns) rows.now ≡ None }
-        ensures { OnOk result (self.new ≡ with_rows (placed_from self.old.next rows.now) self.old) }
+    /// The rows that an INSERT puts, or the first refusal that stands.
+    pub fn insertion(&self, insert: &Insert) -> Result<Outcome, Memory>
+        ensures { IfOk result (λ done. IsDecided (insert_faults self.now.columns insert.now) (new_rows self.now.columns insert.now) done) }
     {
-        for row in rows {
-            self.put_row(row.as_slice())?;
+        insertion(*self.rows.allocator(), self.columns.as_slice(), insert)
+    }
+
+    /// Puts the rows at the end, each under the next id.
+    pub fn put(&mut self, rows: Items<Row>) -> Result<(), Memory>
+        ensures { OnOk result (self.new ≡ with_rows (placed_from self.old.next rows) self.old) }
+    {
+        for row in rows.into_vec() {
+            self.put_row(row)?;
         }
         Ok(())
     }
 
     // Puts one row at the end. A next id of 2^64 is answered as want of memory, as no machine holds
     // so many rows.
-    fn put_row(&mut self, literals: &[Literal]) -> Result<(), Memory>
-        requires { length literals.now ≡ length self.old.columns }
-        ensures { OnOk result (self.new ≡ with_rows (record { id = self.old.next; row = map stored_value literals.now } ∷ []) self.old) }
+    fn put_row(&mut self, row: Row) -> Result<(), Memory>
+        ensures { OnOk result (self.new ≡ with_rows (record { id = self.old.next; row = row } ∷ []) self.old) }
     {
         let Some(next) = self.next.checked_add(1) else {
             return Err(Memory);
         };
-        let row = Row::make(stored_values(*self.rows.allocator(), literals)?);
         self.rows.push(Placed { id: self.next, row })?;
         self.next = next;
         Ok(())
@@ -115,32 +120,8 @@ impl Stored {
 }
 
 // The values of a row, in their order.
-#[tactic(auto, using(crate::proofs::ListLemmas::take_more_found))]
-fn values_of(alloc: Global, row: &Row) -> Result<Items<Value>, Memory>
+fn values_of(row: &Row) -> Result<Items<Value>, Memory>
     ensures { IfOk result (λ values. values ≡ row.now) }
 {
-    let mut values = Vec::with_capacity(alloc, row.width() as usize)?;
-    for column in 0..row.width() {
-        values.push(row.value(column).copy()?)?;
-    }
-    Ok(Items::from_vec(values))
-}
-
-// The values that literals are stored as.
-fn stored_values(alloc: Global, literals: &[Literal]) -> Result<Vec<Value>, Memory>
-    ensures { IfOk result (λ v. v.items ≡ map stored_value literals.now) }
-{
-    let mut values = Vec::with_capacity(alloc, literals.len())?;
-    for literal in literals {
-        values.push(stored_value(literal))?;
-    }
-    Ok(values)
-}
-
-fn stored_value(literal: &Literal) -> Value
-    ensures { result ≡ stored_value literal.now }
-{
-    match literal {
-        Literal::Number(n) => Value::Integer(*n),
-    }
+    Ok(Items::from_vec(row.copy()?.into_values()))
 }

@@ -1,17 +1,20 @@
-use Rattle.std.proofs.Common.{◌≡◌, ℕ, ◌+◌, ◌<◌, ◌≤◌, get_or, true, false, cond, List, [], ◌∷◌, take, drop, Some, None, length, refl, sym, ap, ◌∙◌, arith, zero, suc, take_while, add-zero, ◌==◌}
+use Rattle.std.proofs.Common.{◌≡◌, ℕ, ◌+◌, ◌<◌, ◌≤◌, get_or, eqb, true, false, cond, List, [], ◌∷◌, take, drop, Some, None, length, refl, sym, ap, ◌∙◌, arith, zero, suc, take_while, add-zero, ◌==◌}
 use Rattle.std.specs.List.{prefix_len, list_all}
 use Rattle.std.specs.Char.{is_ascii_digit, to_ascii_lowercase}
-use Rattle.std.proofs.lemmas.Bool.{and_from, false≢true, cond_both}
+use Rattle.std.proofs.lemmas.Bool.{and_from, and_parts, false≢true, cond_both}
 use Rattle.std.proofs.lemmas.Bool.Decides.{nat_tests}
 use Rattle.std.proofs.lemmas.Option.{none-some}
 use Rattle.std.proofs.lemmas.List.Sums.{take_while-cons, prefix_len-le-length, sum_by-cons}
 use Rattle.pk_values.specs.Name.{begins_name, continues_name, is_name, folded, name_of}
 use Rattle.pk_lex.specs.declared.token.Token.TheVariants.{Word, Number}
 use Rattle.pk_lex.specs.declared.lexeme.Lexeme.{Lexeme}
-use Rattle.pk_lex.specs.declared.lexeme.Lexeme.TheVariants.{Blank, Known}
+use Rattle.pk_lex.specs.declared.lexeme.Lexeme.TheVariants.{Gap, Known, Wrong}
+use Rattle.pk_lex.specs.declared.lexeme.Fault.TheVariants.{Unclosed}
 use Rattle.pk_lex.specs.declared.lexeme.Front.{Front}
 use Rattle.pk_lex.specs.Symbols.{symbol_at}
-use Rattle.pk_lex.specs.Lexemes.{is_blank, begins_word, continues_word, symbol_lexeme, symbol_more, lexeme_at, more_at, front_of, line_feeds, line_behind, lexemes_from}
+use Rattle.pk_lex.specs.Lexemes.{is_blank, begins_comment, stays_on_line, begins_word, continues_word, symbol_lexeme, symbol_more, lexeme_at, more_at, front_of, line_feeds, line_behind, lexemes_from}
+use Rattle.pk_lex.specs.Texts.{text_width, text_lexeme, text_more}
+use Rattle.pk_lex.proofs.TextLemmas.{text_fits}
 use Rattle.pk_lex.proofs.SymbolLemmas.{symbol_at_fits}
 
 -- Bytes.
@@ -27,6 +30,16 @@ blank_if_digit b h = grind (arith, nat_tests)
 
 begins_if_digit : (b : ℕ) → is_ascii_digit b ≡ true → begins_word b ≡ false
 begins_if_digit b h = grind (arith, nat_tests)
+
+no_comment_if_begins : (b : ℕ) (bs : List ℕ) → begins_word b ≡ true → begins_comment (b ∷ bs) ≡ false
+no_comment_if_begins b bs h = let e : eqb 45 b ≡ false = grind (arith, nat_tests) in rw e refl
+
+no_comment_if_digit : (b : ℕ) (bs : List ℕ) → is_ascii_digit b ≡ true → begins_comment (b ∷ bs) ≡ false
+no_comment_if_digit b bs h = let e : eqb 45 b ≡ false = grind (arith, nat_tests) in rw e refl
+
+stays_if_comment : (b : ℕ) (bs : List ℕ) → begins_comment (b ∷ bs) ≡ true → stays_on_line b ≡ true
+stays_if_comment b bs h =
+    let first : eqb 45 b ≡ true = (and_parts (eqb 45 b) _ h).0 in grind (arith, nat_tests)
 
 begins_name_if : (b : ℕ) → begins_word b ≡ true → begins_name (to_ascii_lowercase b) ≡ true
 begins_name_if b h = grind (arith, nat_tests)
@@ -48,29 +61,46 @@ name_of_word bytes h = rw (is_name_if bytes h) refl
 
 -- The front of bytes, by what begins there.
 
-pub front_of_blank : (bytes : List ℕ) → 0 < length bytes → is_blank (get_or bytes 0 0) ≡ true → front_of bytes ≡ Some (record { lexeme = Blank; width = 1 })
+pub front_of_blank : (bytes : List ℕ) → 0 < length bytes → is_blank (get_or bytes 0 0) ≡ true → front_of bytes ≡ Some (record { lexeme = Gap; width = 1 })
 unfolding lexeme_at more_at
 front_of_blank [] l h = absurd (omega arith)
 front_of_blank (b ∷ bs) l h = rw h refl
+
+pub front_of_comment : (bytes : List ℕ) → is_blank (get_or bytes 0 0) ≡ false → begins_comment bytes ≡ true → front_of bytes ≡ Some (record { lexeme = Gap; width = prefix_len stays_on_line bytes })
+unfolding lexeme_at more_at
+front_of_comment [] l h = absurd (false≢true h)
+front_of_comment (b ∷ bs) l h = let stays = stays_if_comment b bs h in rw (stays, l, h) refl
 
 pub front_of_word : (bytes : List ℕ) → begins_word (get_or bytes 0 0) ≡ true → front_of bytes ≡ Some (record { lexeme = Known (Word (folded (take_while continues_word bytes))); width = prefix_len continues_word bytes })
 unfolding lexeme_at more_at
 front_of_word [] h = absurd (false≢true h)
 front_of_word (b ∷ bs) h =
-    let blank = blank_if_begins b h in let more = continues_if_begins b h in
-    rw (take_while-cons, blank, h, more) refl
+    let blank = blank_if_begins b h in let comment = no_comment_if_begins b bs h in let more = continues_if_begins b h in
+    rw (take_while-cons, blank, comment, h, more) refl
 
 pub front_of_number : (bytes : List ℕ) → is_ascii_digit (get_or bytes 0 0) ≡ true → front_of bytes ≡ Some (record { lexeme = Known (Number (take_while is_ascii_digit bytes)); width = prefix_len is_ascii_digit bytes })
 unfolding lexeme_at more_at
 front_of_number [] h = absurd (false≢true h)
 front_of_number (b ∷ bs) h =
-    let blank = blank_if_digit b h in let begins = begins_if_digit b h in
-    rw (take_while-cons, blank, begins, h) refl
+    let blank = blank_if_digit b h in let comment = no_comment_if_digit b bs h in let begins = begins_if_digit b h in
+    rw (take_while-cons, blank, comment, begins, h) refl
 
-pub front_of_symbol : (bytes : List ℕ) (front : Front) → 0 < length bytes → is_blank (get_or bytes 0 0) ≡ false → begins_word (get_or bytes 0 0) ≡ false → is_ascii_digit (get_or bytes 0 0) ≡ false → front.lexeme ≡ symbol_lexeme (symbol_at bytes) → front.width ≡ 1 + symbol_more (symbol_at bytes) → front_of bytes ≡ Some front
+pub front_of_text : (bytes : List ℕ) → get_or bytes 0 0 ≡ 39 → front_of bytes ≡ Some (record { lexeme = text_lexeme (text_width false (drop 1 bytes)) (drop 1 bytes); width = 1 + text_more (text_width false (drop 1 bytes)) (drop 1 bytes) })
 unfolding lexeme_at more_at
-front_of_symbol [] front l b w d e f = absurd (omega arith)
-front_of_symbol (x ∷ bs) front l b w d e f = rw (b, w, d, ← e, ← f) refl
+front_of_text [] h = absurd (omega (arith, h))
+front_of_text (b ∷ bs) h = rw h refl
+
+-- a text that no quote closes takes all bytes
+pub front_of_open : (bytes : List ℕ) → get_or bytes 0 0 ≡ 39 → text_width false (drop 1 bytes) ≡ None → front_of bytes ≡ Some (record { lexeme = Wrong Unclosed; width = length bytes })
+front_of_open [] h e = absurd (omega (arith, h))
+front_of_open (b ∷ bs) h e =
+    let whole : length (b ∷ bs) ≡ 1 + length bs = omega arith in
+    let front = front_of_text (b ∷ bs) h in rw (front, e, whole) refl
+
+pub front_of_symbol : (bytes : List ℕ) (front : Front) → 0 < length bytes → is_blank (get_or bytes 0 0) ≡ false → begins_comment bytes ≡ false → begins_word (get_or bytes 0 0) ≡ false → is_ascii_digit (get_or bytes 0 0) ≡ false → (get_or bytes 0 0 == 39) ≡ false → front.lexeme ≡ symbol_lexeme (symbol_at bytes) → front.width ≡ 1 + symbol_more (symbol_at bytes) → front_of bytes ≡ Some front
+unfolding lexeme_at more_at
+front_of_symbol [] front l b c w d t e f = absurd (omega arith)
+front_of_symbol (x ∷ bs) front l b c w d t e f = rw (b, c, w, d, t, ← e, ← f) refl
 
 -- How many bytes a front takes.
 
@@ -82,13 +112,15 @@ symbol_fits b bs =
     ]
     refl
 
-more_fits : (b : ℕ) (bs : List ℕ) → more_at b bs ≤ length bs
+pub more_fits : (b : ℕ) (bs : List ℕ) → more_at b bs ≤ length bs
 unfolding more_at
 more_fits b bs =
     let fits : ℕ → Type 0 = λ n. n ≤ length bs in
     cond_both (is_blank b) _ _ fits (λ _. omega arith)
+    (λ _. cond_both (begins_comment (b ∷ bs)) _ _ fits (λ _. prefix_len-le-length stays_on_line bs)
     (λ _. cond_both (begins_word b) _ _ fits (λ _. prefix_len-le-length continues_word bs)
-    (λ _. cond_both (is_ascii_digit b) _ _ fits (λ _. prefix_len-le-length is_ascii_digit bs) (λ _. symbol_fits b bs)))
+    (λ _. cond_both (is_ascii_digit b) _ _ fits (λ _. prefix_len-le-length is_ascii_digit bs)
+    (λ _. cond_both (b == 39) _ _ fits (λ _. text_fits bs) (λ _. symbol_fits b bs)))))
 
 pub front_fits : (bytes : List ℕ) (front : Front) → front_of bytes ≡ Some front → (0 < front.width) × (front.width ≤ length bytes)
 front_fits [] front e = absurd (none-some front e)
@@ -102,7 +134,7 @@ line_behind_is : (line b : ℕ) → line_behind line b ≡ line + cond (b == 10)
 line_behind_is line b =
     elim (b == 10) as (λ p. cond p (line + 1) line ≡ line + cond p 1 0) [ true ↦ refl | false ↦ sym (add-zero line) ]
 
-lines_behind : (line b : ℕ) (bs : List ℕ) → line_behind line b + line_feeds bs ≡ line + line_feeds (b ∷ bs)
+pub lines_behind : (line b : ℕ) (bs : List ℕ) → line_behind line b + line_feeds bs ≡ line + line_feeds (b ∷ bs)
 lines_behind line b bs =
     let first = line_behind_is line b in
     let all = sum_by-cons (λ x. cond (x == 10) 1 0) b bs in omega arith

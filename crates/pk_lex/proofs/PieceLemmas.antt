@@ -8,9 +8,12 @@ use Rattle.pk_lex.specs.declared.token.Token.{Token}
 use Rattle.pk_lex.specs.declared.token.Token.TheVariants.{Symbol as Sign}
 use Rattle.pk_lex.specs.declared.token.Symbol.TheVariants.{Semicolon}
 use Rattle.pk_lex.specs.declared.lexeme.Lexeme.{Lexeme}
-use Rattle.pk_lex.specs.declared.lexeme.Lexeme.TheVariants.{Blank, Known, Bad}
+use Rattle.pk_lex.specs.declared.lexeme.Lexeme.TheVariants.{Gap, Known, Wrong}
+use Rattle.pk_lex.specs.declared.lexeme.Fault.{Fault}
+use Rattle.pk_lex.specs.declared.lexeme.Fault.TheVariants.{Bad, Unclosed}
 use Rattle.pk_lex.specs.declared.piece.Piece.{Piece}
-use Rattle.pk_lex.specs.Pieces.{is_solid, is_end, ends_piece, parts_of, first_fault, tokens_of, piece_with, piece_of, pieces_of}
+use Rattle.pk_lex.specs.Pieces.{is_solid, is_end, parts_of, first_fault, tokens_of, piece_with, piece_of, pieces_of}
+use Rattle.pk_lex.specs.Tokens.{ends_piece}
 use Rattle.pk_lex.specs.Laws.{body_tokens, first_told}
 
 -- the tokens of the pieces of parts
@@ -39,8 +42,8 @@ fault-onto_first line t (part ∷ parts) = refl
 
 first_part_faultless : (xs : List (ℕ × Lexeme)) → first_fault xs ≡ None → first_fault (first_part (parts_of xs)) ≡ None
 first_part_faultless [] h = refl
-first_part_faultless ((line, Blank) ∷ xs) h = first_part_faultless xs h
-first_part_faultless ((line, Bad) ∷ xs) h = absurd (none-some line (sym h))
+first_part_faultless ((line, Gap) ∷ xs) h = first_part_faultless xs h
+first_part_faultless ((line, Wrong f) ∷ xs) h = absurd (none-some (line, f) (sym h))
 first_part_faultless ((line, Known t) ∷ xs) h =
     elim (ends_piece t) as (λ p. first_fault (first_part (cond p ([] ∷ parts_of xs) (onto_first (line, Known t) (parts_of xs)))) ≡ None) [
       | true ↦ refl
@@ -49,8 +52,8 @@ first_part_faultless ((line, Known t) ∷ xs) h =
 
 pub joined_is : (xs : List (ℕ × Lexeme)) → first_fault xs ≡ None → joined (parts_of xs) ≡ filter (λ t. not (ends_piece t)) (tokens_of xs)
 joined_is [] h = refl
-joined_is ((line, Blank) ∷ xs) h = joined_is xs h
-joined_is ((line, Bad) ∷ xs) h = absurd (none-some line (sym h))
+joined_is ((line, Gap) ∷ xs) h = joined_is xs h
+joined_is ((line, Wrong f) ∷ xs) h = absurd (none-some (line, f) (sym h))
 joined_is ((line, Known t) ∷ xs) h =
     let others : List Token = filter (λ u. not (ends_piece u)) (tokens_of xs) in
     elim (ends_piece t) as (λ p. joined (cond p ([] ∷ parts_of xs) (onto_first (line, Known t) (parts_of xs))) ≡ cond (not p) (t ∷ others) others) [
@@ -59,14 +62,15 @@ joined_is ((line, Known t) ∷ xs) h =
     ]
 
 -- the first fault that the pieces of parts tell
-abbrev told : List (List (ℕ × Lexeme)) → Option ℕ
+abbrev told : List (List (ℕ × Lexeme)) → Option (ℕ × Fault)
 told parts = first_told (filter_map piece_of parts)
 
 told-cons : (part : List (ℕ × Lexeme)) (parts : List (List (ℕ × Lexeme))) → told (part ∷ parts) ≡ option_or (first_fault part) (told parts)
 told-cons [] parts = refl
 told-cons (x ∷ part) parts =
     elim (first_fault (x ∷ part)) as (λ o. first_told (cons_option (piece_with (Some x.0) o (tokens_of (x ∷ part))) (filter_map piece_of parts)) ≡ option_or o (told parts)) [
-      | Some line ↦ refl
+      | Some (line, Bad) ↦ refl
+      | Some (line, Unclosed) ↦ refl
       | None ↦ refl
     ]
 
@@ -74,14 +78,16 @@ told-onto_first : (line : ℕ) (t : Token) (parts : List (List (ℕ × Lexeme)))
 told-onto_first line t [] = refl
 told-onto_first line t (part ∷ parts) = told-cons ((line, Known t) ∷ part) parts ∙ sym (told-cons part parts)
 
-told-onto_first_bad : (line : ℕ) (parts : List (List (ℕ × Lexeme))) → told (onto_first (line, Bad) parts) ≡ Some line
-told-onto_first_bad line [] = refl
-told-onto_first_bad line (part ∷ parts) = refl
+told-onto_first_wrong : (line : ℕ) (f : Fault) (parts : List (List (ℕ × Lexeme))) → told (onto_first (line, Wrong f) parts) ≡ Some (line, f)
+told-onto_first_wrong line Bad [] = refl
+told-onto_first_wrong line Unclosed [] = refl
+told-onto_first_wrong line Bad (part ∷ parts) = refl
+told-onto_first_wrong line Unclosed (part ∷ parts) = refl
 
 pub told_is : (xs : List (ℕ × Lexeme)) → told (parts_of xs) ≡ first_fault xs
 told_is [] = refl
-told_is ((line, Blank) ∷ xs) = told_is xs
-told_is ((line, Bad) ∷ xs) = told-onto_first_bad line (parts_of xs)
+told_is ((line, Gap) ∷ xs) = told_is xs
+told_is ((line, Wrong f) ∷ xs) = told-onto_first_wrong line f (parts_of xs)
 told_is ((line, Known t) ∷ xs) =
     elim (ends_piece t) as (λ p. told (cond p ([] ∷ parts_of xs) (onto_first (line, Known t) (parts_of xs))) ≡ first_fault xs) [
       | true ↦ told_is xs
@@ -99,9 +105,9 @@ some_parts xs = omega (arith, length-slice_split is_end (filter is_solid xs))
 
 parts_of-append : (xs ys : List (ℕ × Lexeme)) (line : ℕ) → parts_of (xs ++ (line, Known (Sign Semicolon)) ∷ ys) ≡ parts_of xs ++ parts_of ys
 parts_of-append [] ys line = refl
-parts_of-append ((at, Blank) ∷ xs) ys line = parts_of-append xs ys line
-parts_of-append ((at, Bad) ∷ xs) ys line =
-    ap (onto_first (at, Bad)) (parts_of-append xs ys line) ∙ onto_first-append (at, Bad) (parts_of xs) (parts_of ys) (some_parts xs)
+parts_of-append ((at, Gap) ∷ xs) ys line = parts_of-append xs ys line
+parts_of-append ((at, Wrong f) ∷ xs) ys line =
+    ap (onto_first (at, Wrong f)) (parts_of-append xs ys line) ∙ onto_first-append (at, Wrong f) (parts_of xs) (parts_of ys) (some_parts xs)
 parts_of-append ((at, Known t) ∷ xs) ys line =
     let whole : List (List (ℕ × Lexeme)) = parts_of (xs ++ (line, Known (Sign Semicolon)) ∷ ys) in
     elim (ends_piece t) as (λ p. cond p ([] ∷ whole) (onto_first (at, Known t) whole) ≡ cond p ([] ∷ parts_of xs) (onto_first (at, Known t) (parts_of xs)) ++ parts_of ys) [

@@ -3,6 +3,7 @@ use Rattle.std.specs.List.{filter_map, cons_option}
 use Rattle.std.specs.Option.{option_or}
 use Rattle.pk_lex.specs.declared.token.Token.{Token}
 use Rattle.pk_lex.specs.declared.lexeme.Lexeme.{Lexeme}
+use Rattle.pk_lex.specs.declared.lexeme.Fault.{Fault}
 use Rattle.pk_lex.specs.declared.piece.Piece.{Piece}
 use Rattle.pk_lex.specs.declared.draft.Draft.{Draft}
 use Rattle.pk_lex.specs.declared.builder.PieceBuilder.{PieceBuilder}
@@ -12,7 +13,7 @@ use Rattle.pk_lex.specs.Pieces.{first_line, first_fault, tokens_of, piece_with, 
 
 -- The pieces of parts, of which the first goes on from a part that begins on a line, if it has begun,
 -- with its first fault and its tokens.
-abbrev pub pieces_on : Option ℕ → Option ℕ → List Token → List (List (ℕ × Lexeme)) → List Piece
+abbrev pub pieces_on : Option ℕ → Option (ℕ × Fault) → List Token → List (List (ℕ × Lexeme)) → List Piece
 pieces_on begins fault tokens [] = cons_option (piece_with begins fault tokens) []
 pieces_on begins fault tokens (part ∷ parts) =
     cons_option

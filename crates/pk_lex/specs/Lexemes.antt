@@ -1,18 +1,28 @@
-use Rattle.std.specs.Prelude.{ℕ, ◌+◌, ◌-◌, Bool, ◌==◌, ◌||◌, List, [], ◌∷◌, length, take_while, count_by, Option, Some, None, if◌then◌else◌}
+use Rattle.std.specs.Prelude.{ℕ, ◌+◌, ◌-◌, Bool, false, not, ◌==◌, ◌||◌, List, [], ◌∷◌, length, take_while, count_by, Option, Some, None, codes, nat_eq, if◌then◌else◌}
 use Rattle.std.proofs.Common.{suc, zero}
-use Rattle.std.specs.List.{prefix_len}
+use Rattle.std.specs.List.{prefix_len, starts_with}
 use Rattle.std.specs.Char.{is_ascii_alphabetic, is_ascii_alphanumeric, is_ascii_digit}
 use Rattle.pk_values.specs.Name.{folded}
 use Rattle.pk_lex.specs.declared.token.Token.TheVariants.{Word, Number, Symbol as Sign}
 use Rattle.pk_lex.specs.declared.token.Symbol.{Symbol}
 use Rattle.pk_lex.specs.declared.lexeme.Lexeme.{Lexeme}
-use Rattle.pk_lex.specs.declared.lexeme.Lexeme.TheVariants.{Blank, Known, Bad}
+use Rattle.pk_lex.specs.declared.lexeme.Lexeme.TheVariants.{Gap, Known, Wrong}
+use Rattle.pk_lex.specs.declared.lexeme.Fault.TheVariants.{Bad}
 use Rattle.pk_lex.specs.declared.lexeme.Front.{Front}
 use Rattle.pk_lex.specs.Symbols.{spelling, symbol_at}
+use Rattle.pk_lex.specs.Texts.{text_width, text_lexeme, text_more}
 
 -- space, tab, line feed or carriage return
 abbrev pub is_blank : ℕ → Bool
 is_blank b = b == 32 || b == 9 || b == 10 || b == 13
+
+-- whether the bytes begin with `--`
+abbrev pub begins_comment : List ℕ → Bool
+begins_comment bytes = starts_with nat_eq bytes (codes "--")
+
+-- any byte but a line feed
+abbrev pub stays_on_line : ℕ → Bool
+stays_on_line b = not (b == 10)
 
 -- a letter or `_`
 abbrev pub begins_word : ℕ → Bool
@@ -25,7 +35,7 @@ continues_word b = is_ascii_alphanumeric b || b == 95
 -- what a symbol or a byte that begins nothing is
 abbrev pub symbol_lexeme : Option Symbol → Lexeme
 symbol_lexeme (Some s) = Known (Sign s)
-symbol_lexeme None = Bad
+symbol_lexeme None = Wrong Bad
 
 -- how many bytes it takes behind its first
 abbrev pub symbol_more : Option Symbol → ℕ
@@ -35,18 +45,22 @@ symbol_more None = 0
 -- the lexeme that begins with the byte b and goes on in the bytes behind it: the longest there is
 unfoldable pub lexeme_at : ℕ → List ℕ → Lexeme
 lexeme_at b behind =
-    if is_blank b then Blank
+    if is_blank b then Gap
+    else (if begins_comment (b ∷ behind) then Gap
     else (if begins_word b then Known (Word (folded (b ∷ take_while continues_word behind)))
     else (if is_ascii_digit b then Known (Number (b ∷ take_while is_ascii_digit behind))
-    else symbol_lexeme (symbol_at (b ∷ behind))))
+    else (if b == 39 then text_lexeme (text_width false behind) behind
+    else symbol_lexeme (symbol_at (b ∷ behind))))))
 
 -- how many of the bytes behind its first it takes
 unfoldable pub more_at : ℕ → List ℕ → ℕ
 more_at b behind =
     if is_blank b then 0
+    else (if begins_comment (b ∷ behind) then prefix_len stays_on_line behind
     else (if begins_word b then prefix_len continues_word behind
     else (if is_ascii_digit b then prefix_len is_ascii_digit behind
-    else symbol_more (symbol_at (b ∷ behind))))
+    else (if b == 39 then text_more (text_width false behind) behind
+    else symbol_more (symbol_at (b ∷ behind))))))
 
 -- the lexeme at the front of the bytes
 abbrev pub front_of : List ℕ → Option Front

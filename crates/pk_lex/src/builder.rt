@@ -1,7 +1,8 @@
 ghost use Rattle.std.specs.Prelude.{◌≡◌, ◌∷◌, ◌++◌, [], List, ℕ, None, IfOk, OnOk, option_to_list};
 ghost use Rattle.pk_lex.specs.declared.lexeme.Lexeme.{Lexeme as Entry};
 ghost use Rattle.pk_lex.specs.declared.lexeme.Lexeme.TheVariants.{Known};
-ghost use Rattle.pk_lex.specs.Pieces.{pieces_of, ends_piece};
+ghost use Rattle.pk_lex.specs.Pieces.{pieces_of};
+ghost use Rattle.pk_lex.specs.Tokens.{ends_piece};
 ghost use Rattle.pk_lex.specs.Building.{piece_drafted, pieces_with};
 
 use crate::draft::Draft;
@@ -37,9 +38,9 @@ impl PieceBuilder {
             ((rest : List (ℕ × Entry)) → pieces_with self.new rest ≡ pieces_with self.old ((line, lexeme) ∷ rest)) }
     {
         match lexeme {
-            Lexeme::Blank => Ok(()),
-            Lexeme::Bad => {
-                self.draft.add_fault(line);
+            Lexeme::Gap => Ok(()),
+            Lexeme::Wrong(fault) => {
+                self.draft.add_fault(line, fault);
                 Ok(())
             }
             Lexeme::Known(token) => self.add_token(line, token),

@@ -1,7 +1,9 @@
 ghost use Rattle.std.specs.Prelude.{◌≡◌, ◌∷◌, ◌++◌, [], Some, None, OnOk};
 ghost use Rattle.std.specs.Option.{option_or};
 ghost use Rattle.pk_lex.specs.Building.{piece_drafted};
+ghost use Rattle.pk_lex.specs.Pieces.{body_of};
 
+use crate::lexeme::Fault;
 use crate::piece::{Body, Piece};
 use crate::token::Token;
 use pk_values::{Items, Memory};
@@ -12,8 +14,8 @@ use std::alloc::Global;
 pub(crate) struct Draft {
     /// The line of its first token or fault, if it has one.
     begins: Option<u64>,
-    /// The line of its first fault, if it has one.
-    fault: Option<u64>,
+    /// Its first fault, with its line, if it has one.
+    fault: Option<(u64, Fault)>,
     tokens: Vec<Token>,
 }
 
@@ -37,19 +39,19 @@ impl Draft {
         ensures fault { OnOk result (self.new.fault ≡ self.old.fault) }
         ensures tokens { OnOk result (self.new.tokens.items ≡ self.old.tokens.items ++ token ∷ []) }
     {
-        self.tokens.push(token)?;
+        add(&mut self.tokens, token)?;
         self.begin(line);
         Ok(())
     }
 
     /// Puts a fault of this line behind what the piece holds.
-    pub fn add_fault(&mut self, line: u64)
+    pub fn add_fault(&mut self, line: u64, fault: Fault)
         ensures begins { self.new.begins ≡ option_or self.old.begins (Some line) }
-        ensures fault { self.new.fault ≡ option_or self.old.fault (Some line) }
+        ensures fault { self.new.fault ≡ option_or self.old.fault (Some (line, fault)) }
         ensures tokens { self.new.tokens.items ≡ self.old.tokens.items }
     {
         self.begin(line);
-        self.fault = self.fault.or(Some(line));
+        self.fault = self.fault.or(Some((line, fault)));
     }
 
     /// The piece, unless it is empty.
@@ -62,11 +64,10 @@ impl Draft {
             tokens,
         } = self;
         let line = begins?;
-        let body = match fault {
-            Some(line) => Body::BadCharacter { line },
-            None => Body::Tokens(Items::from_vec(tokens)),
-        };
-        Some(Piece { line, body })
+        Some(Piece {
+            line,
+            body: body_of(fault, tokens),
+        })
     }
 
     // Begins the piece on this line, unless it has begun.
@@ -76,5 +77,30 @@ impl Draft {
         ensures tokens { self.new.tokens.items ≡ self.old.tokens.items }
     {
         self.begins = self.begins.or(Some(line));
+    }
+}
+
+// Puts the token behind the others. Room begins at one, since a script may have very many pieces of
+// one token.
+fn add(tokens: &mut Vec<Token>, token: Token) -> Result<(), Memory>
+    ensures { OnOk result (tokens.new.items ≡ tokens.old.items ++ token ∷ []) }
+{
+    if tokens.is_empty() {
+        tokens.reserve_exact(1)?;
+    }
+    Ok(tokens.push(token)?)
+}
+
+// The fault, where there is one, else the tokens.
+fn body_of(fault: Option<(u64, Fault)>, mut tokens: Vec<Token>) -> Body
+    ensures { result ≡ body_of fault tokens.items }
+{
+    match fault {
+        Some((line, Fault::Bad)) => Body::BadCharacter { line },
+        Some((line, Fault::Unclosed)) => Body::UnclosedText { line },
+        None => {
+            tokens.shrink_to_fit();
+            Body::Tokens(Items::from_vec(tokens))
+        }
     }
 }

@@ -1,7 +1,7 @@
 //! What the pieces of a script are, in words that don't retrace how they are found. A law is a
 //! contract; its function does nothing.
 
-ghost use Rattle.pk_lex.specs.Laws.{PiecesHoldTheTokens, PiecesTellTheFirstFault, SemicolonsCut, LexemesStandOnTheirLines, ExampleIsCut};
+ghost use Rattle.pk_lex.specs.Laws.{PiecesHoldTheTokens, PiecesTellTheFirstFault, SemicolonsCut, LexemesStandOnTheirLines, LexemesFillTheScript, QuotedBytesAreTexts, QuotesBeginTexts, TextsBeginWithQuotes, ExampleIsCut};
 
 /// Where a script has no fault, its pieces hold its tokens other than `;`, all of them and in order.
 pub fn pieces_hold_the_tokens()
@@ -24,7 +24,31 @@ pub fn lexemes_stand_on_their_lines()
     ensures { LexemesStandOnTheirLines }
 {}
 
-/// `a;`, a line feed and `$;` are a word on line 1 and a fault on line 2.
+/// A script is the bytes of its lexemes, joined: each begins where the one before ends, the first at
+/// the script's front and the last up to its end, and none is empty.
+pub fn lexemes_fill_the_script()
+    ensures { LexemesFillTheScript }
+{}
+
+/// Bytes between quotes, each quote among them doubled and no quote behind them, are read as a text
+/// of these bytes where they are UTF-8, and as a bad character elsewhere.
+pub fn quoted_bytes_are_texts()
+    ensures { QuotedBytesAreTexts }
+{}
+
+/// Where a quote stands, such bytes between quotes stand, or an unclosed text, which reaches to the
+/// script's end.
+pub fn quotes_begin_texts()
+    ensures { QuotesBeginTexts }
+{}
+
+/// Every text, also an unclosed one, begins with a quote.
+pub fn texts_begin_with_quotes()
+    ensures { TextsBeginWithQuotes }
+{}
+
+/// `'it''s'`, a comment, a line feed and `;'` are a text on line 1 and an unclosed one on line 2; `a;`,
+/// a line feed and `$;` are a word on line 1 and a fault on line 2.
 pub fn example_is_cut()
     ensures { ExampleIsCut }
 {}

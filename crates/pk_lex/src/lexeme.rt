@@ -3,11 +3,19 @@ use crate::token::Token;
 /// What stands at a place of a script.
 #[derive(Debug, Drop)]
 pub(crate) enum Lexeme {
-    /// A byte between tokens.
-    Blank,
+    /// What stands between tokens: a blank or a comment.
+    Gap,
     Known(Token),
-    /// A byte that begins no token.
+    Wrong(Fault),
+}
+
+/// What stands where no token can be read.
+#[derive(Clone, Copy, Debug, PartialEq, Eq)]
+pub(crate) enum Fault {
+    /// A bad character: a byte that begins no token, or a closed text that isn't UTF-8.
     Bad,
+    /// A text that no quote closes.
+    Unclosed,
 }
 
 /// The lexeme at the front of some bytes.

@@ -1,6 +1,7 @@
-ghost use Rattle.std.specs.Prelude.{◌≡◌, IfOk};
+ghost use Rattle.std.specs.Prelude.{◌≡◌, IfOk, IsTrue, All};
 ghost use Rattle.pk_lex.specs.Lexemes.{line_feeds};
 ghost use Rattle.pk_lex.specs.Pieces.{pieces};
+ghost use Rattle.pk_lex.specs.Tokens.{is_lexed};
 
 use crate::builder::PieceBuilder;
 use crate::lexeme::Front;
@@ -11,7 +12,8 @@ use std::alloc::Global;
 
 /// The pieces of a script, in order.
 pub fn lex(alloc: Global, script: &[u8]) -> Result<Vec<Piece>, Memory>
-    ensures { IfOk result (λ v. v.items ≡ pieces script.now) }
+    ensures pieces { IfOk result (λ v. v.items ≡ pieces script.now) }
+    ensures lexed { IfOk result (λ v. All (λ piece. IsTrue (is_lexed piece)) v.items) }
 {
     let mut builder = PieceBuilder::new(alloc);
     let mut line = 1;

@@ -14,6 +14,9 @@ pub struct Piece {
 pub enum Body {
     /// At least one token, and no semicolon.
     Tokens(Items<Token>),
-    /// The piece's first fault is a byte that begins no token, on this line.
+    /// The piece's first fault is a bad character on this line: a byte that begins no token, or a
+    /// text between quotes that isn't UTF-8.
     BadCharacter { line: u64 },
+    /// The piece's first fault is a text that begins on this line and that no quote closes.
+    UnclosedText { line: u64 },
 }

@@ -5,9 +5,10 @@ ghost use Rattle.std.specs.List.{prefix_len};
 ghost use Rattle.std.specs.Char.{is_ascii_digit};
 ghost use Rattle.pk_lex.specs.Symbols.{spelling, symbol_at};
 ghost use Rattle.pk_lex.specs.Matching.{single_symbol, double_symbol};
-ghost use Rattle.pk_lex.specs.Lexemes.{is_blank, begins_word, continues_word, symbol_lexeme, symbol_more, front_of};
+ghost use Rattle.pk_lex.specs.Lexemes.{is_blank, begins_comment, stays_on_line, begins_word, continues_word, symbol_lexeme, symbol_more, front_of};
 
-use crate::lexeme::{Front, Lexeme};
+use crate::lexeme::{Fault, Front, Lexeme};
+use crate::text::read_text;
 use crate::token::{Symbol, Token};
 use pk_values::{Bytes, Memory, Name};
 use std::alloc::Global;
@@ -20,13 +21,20 @@ pub(crate) fn read_front(alloc: Global, bytes: &[u8]) -> Result<Front, Memory>
     let first = bytes[0];
     if is_blank(first) {
         Ok(Front {
-            lexeme: Lexeme::Blank,
+            lexeme: Lexeme::Gap,
             width: 1,
+        })
+    } else if begins_comment(bytes) {
+        Ok(Front {
+            lexeme: Lexeme::Gap,
+            width: comment_width(bytes),
         })
     } else if begins_word(first) {
         read_word(alloc, bytes)
     } else if first.is_ascii_digit() {
         read_number(alloc, bytes)
+    } else if first == b'\'' {
+        read_text(alloc, bytes)
     } else {
         Ok(read_symbol(bytes))
     }
@@ -69,7 +77,7 @@ fn read_symbol(bytes: &[u8]) -> Front
             width: symbol_width(symbol),
         },
         None => Front {
-            lexeme: Lexeme::Bad,
+            lexeme: Lexeme::Wrong(Fault::Bad),
             width: 1,
         },
     }
@@ -135,6 +143,13 @@ fn symbol_width(symbol: Symbol) -> usize
     }
 }
 
+// How many bytes there are before the first line feed.
+fn comment_width(bytes: &[u8]) -> usize
+    ensures { result ≡ prefix_len stays_on_line bytes.now }
+{
+    bytes.iter().take_while(|byte| **byte != b'\n').count()
+}
+
 // How many bytes at the front are bytes of a word.
 fn word_width(bytes: &[u8]) -> usize
     ensures { result ≡ prefix_len continues_word bytes.now }
@@ -159,6 +174,12 @@ fn is_blank(byte: u8) -> bool
     ensures { result ≡ is_blank byte }
 {
     matches!(byte, b' ' | b'\t' | b'\n' | b'\r')
+}
+
+fn begins_comment(bytes: &[u8]) -> bool
+    ensures { result ≡ begins_comment bytes.now }
+{
+    bytes.starts_with(b"--")
 }
 
 fn begins_word(byte: u8) -> bool

@@ -7,6 +7,8 @@ pub enum Token {
     Word(Name),
     /// One or more digits, as they stand in the script.
     Number(Bytes),
+    /// The bytes between two quotes, each `''` of the script being one `'`. They are UTF-8.
+    Text(Bytes),
     /// One of the symbols below.
     Symbol(Symbol),
 }

@@ -1,21 +1,36 @@
 -- What single tokens read as, and where from.
-use Rattle.std.proofs.Common.{◌≡◌, ℕ, Bool, true, false, cond, List, [], ◌∷◌, Option, Some, None, refl, sym, ap, subst, ◌∙◌}
+use Rattle.std.proofs.Common.{◌≡◌, ℕ, Bool, true, false, cond, List, [], ◌∷◌, Option, Some, None, ◌++◌, ◌⊎◌, inl, inr, refl, sym, ap, subst, ◌∙◌}
 use Rattle.std.specs.Str.{bytes_eq}
 use Rattle.std.proofs.lemmas.Option.{cond_some, some_pair_parts}
 use Rattle.std.proofs.lemmas.Slice.Eq.{bytes_eq-Decides}
 use Rattle.pk_lex.specs.declared.token.Token.{Token}
-use Rattle.pk_lex.specs.declared.token.Token.TheVariants.{Word, Number, Symbol as Sign}
+use Rattle.pk_lex.specs.declared.token.Token.TheVariants.{Word, Number, Text, Symbol as Sign}
 use Rattle.pk_lex.specs.declared.token.Symbol.{Symbol}
 use Rattle.pk_lex.specs.declared.token.Symbol.TheVariants.{LeftParen, RightParen, Comma, Semicolon, Star, Equal, Less, Greater, AtMost, AtLeast, UnequalAngle, UnequalBang, Minus}
 use Rattle.pk_lex.specs.Symbols.{spelling, symbol_at}
 use Rattle.pk_parse.specs.Words.{is_reserved}
-use Rattle.pk_parse.specs.Tokens.{Found, ◌>>=◌, after_word, after_symbol, name_at}
-use Rattle.pk_parse.specs.Grammar.{IsFree}
+use Rattle.pk_parse.specs.Tokens.{Found, ◌>>=◌, behind_or, after_word, after_symbol, name_at, digits_at}
+use Rattle.pk_parse.specs.LiteralGrammar.{IsFree}
 
 -- a step that didn't miss
 pub bind_some : {A B : Type 0} (o : Option A) (f : A → Option B) (y : B) → (o >>= f) ≡ Some y → (x : A) × (o ≡ Some x) × (f x ≡ Some y)
 bind_some (Some x) f y e = (x, refl, e)
 bind_some None f y e = absurd cc
+
+-- which of the two was read
+pub behind_cases : {A : Type 0} (o : Option (List Token)) (f : List Token → A) (other y : A) → behind_or o f other ≡ y → ((behind : List Token) × (o ≡ Some behind) × (f behind ≡ y)) ⊎ ((o ≡ None) × (other ≡ y))
+behind_cases (Some behind) f other y e = inl (behind, refl, e)
+behind_cases None f other y e = inr (refl, e)
+
+-- the tokens are some that spell the thing, and the rest
+abbrev pub Front : {A : Type 0} → (List Token → A → Type 0) → List Token → A → List Token → Type 0
+Front Is tokens x rest = (front : List Token) × (tokens ≡ front ++ rest) × Is front x
+
+-- what was made of a front is what was found
+pub fronted : {A : Type 0} (Is : List Token → A → Type 0) (tokens front after rest : List Token) (y x : A) → tokens ≡ front ++ after → Is front y → ◌≡◌ {A = Found A} (Some (y, after)) (Some (x, rest)) → Front Is tokens x rest
+fronted Is tokens front after rest y x split is made =
+    let parts = some_pair_parts y x after rest made in
+    (front, split ∙ ap (λ (ts : List Token). front ++ ts) parts.1, subst (Is front) parts.0 is)
 
 -- no two symbols are spelled alike
 spelled_back : (s : Symbol) → symbol_at (spelling s) ≡ Some s
@@ -43,6 +58,7 @@ pub word_found : (word : List ℕ) (tokens behind : List Token) → after_word w
 unfolding after_word
 word_found word [] behind e = absurd cc
 word_found word (Number digits ∷ ts) behind e = absurd cc
+word_found word (Text bytes ∷ ts) behind e = absurd cc
 word_found word (Sign s ∷ ts) behind e = absurd cc
 word_found word (Word w ∷ ts) behind e =
     let found = cond_some (bytes_eq w word) ts behind e in
@@ -63,6 +79,7 @@ pub symbol_found : (symbol : Symbol) (tokens behind : List Token) → after_symb
 unfolding after_symbol
 symbol_found symbol [] behind e = absurd cc
 symbol_found symbol (Number digits ∷ ts) behind e = absurd cc
+symbol_found symbol (Text bytes ∷ ts) behind e = absurd cc
 symbol_found symbol (Word w ∷ ts) behind e = absurd cc
 symbol_found symbol (Sign s ∷ ts) behind e =
     let found = cond_some (bytes_eq (spelling s) (spelling symbol)) ts behind e in
@@ -79,6 +96,7 @@ pub name_found : (tokens : List Token) (name : List ℕ) (behind : List Token) �
 unfolding name_at
 name_found [] name behind e = absurd cc
 name_found (Number digits ∷ ts) name behind e = absurd cc
+name_found (Text bytes ∷ ts) name behind e = absurd cc
 name_found (Sign s ∷ ts) name behind e = absurd cc
 name_found (Word w ∷ ts) name behind e = free_found (is_reserved w) w ts name behind refl e
   where
@@ -91,3 +109,13 @@ name_found (Word w ∷ ts) name behind e = free_found (is_reserved w) w ts name 
 pub name_again : (name : List ℕ) (behind : List Token) → IsFree name → name_at (Word name ∷ behind) ≡ Some (name, behind)
 unfolding name_at
 name_again name behind free = rw free refl
+
+-- ---- numbers
+
+pub digits_found : (tokens : List Token) (digits : List ℕ) (behind : List Token) → digits_at tokens ≡ Some (digits, behind) → tokens ≡ Number digits ∷ behind
+unfolding digits_at
+digits_found [] digits behind e = absurd cc
+digits_found (Word w ∷ ts) digits behind e = absurd cc
+digits_found (Text bytes ∷ ts) digits behind e = absurd cc
+digits_found (Sign s ∷ ts) digits behind e = absurd cc
+digits_found (Number ds ∷ ts) digits behind e = let parts = some_pair_parts ds digits ts behind e in cc

@@ -1,171 +1,392 @@
 -- The law of the grammar: what is read is in it, and what is in it is read.
-use Rattle.std.proofs.Common.{◌≡◌, ℕ, Bool, true, false, MatchBool, map, List, [], ◌∷◌, ◌++◌, Some, None, refl, sym, ap, subst, ◌∙◌}
+use Rattle.std.proofs.Common.{◌≡◌, ℕ, Bool, true, false, cond, List, [], ◌∷◌, ◌++◌, Option, Some, None, inl, inr, refl, sym, ap, subst, ◌∙◌, append_assoc}
 use Rattle.std.specs.Prelude.{codes}
 use Rattle.std.specs.Str.{bytes_eq}
 use Rattle.std.proofs.lemmas.List.{append-nil}
-use Rattle.std.proofs.lemmas.Option.{some_pair_parts}
+use Rattle.std.proofs.lemmas.Slice.Eq.{bytes_eq-Decides}
 use Rattle.pk_lex.specs.declared.token.Token.{Token}
-use Rattle.pk_lex.specs.declared.token.Token.TheVariants.{Word, Symbol as Sign}
-use Rattle.pk_lex.specs.declared.token.Symbol.TheVariants.{Star}
+use Rattle.pk_lex.specs.declared.token.Token.TheVariants.{Word, Number, Text, Symbol as Sign}
+use Rattle.pk_lex.specs.declared.token.Symbol.TheVariants.{LeftParen}
 use Rattle.pk_parse.specs.declared.statement.Statement.{Statement}
-use Rattle.pk_parse.specs.declared.statement.Statement.TheVariants.{Create, Insert as InsertInto, Select as SelectFrom}
-use Rattle.pk_parse.specs.declared.statement.TableDecl.{TableDecl}
-use Rattle.pk_parse.specs.declared.statement.Insert.{Insert}
-use Rattle.pk_parse.specs.declared.statement.Select.{Select}
+use Rattle.pk_parse.specs.declared.statement.Statement.TheVariants.{Create, Drop, Insert, Update, Delete, Select, Begin, Commit, Rollback, Session, Show, Implies, Cover, Examples, Discover, Checkpoint}
+use Rattle.pk_parse.specs.declared.declaration.TableDecl.{TableDecl}
+use Rattle.pk_parse.specs.declared.declaration.KeyText.{KeyText}
+use Rattle.pk_parse.specs.declared.condition.Test.{Test}
+use Rattle.pk_parse.specs.declared.edit.SetPart.{SetPart}
+use Rattle.pk_parse.specs.declared.literal.Literal.{Literal}
+use Rattle.pk_parse.specs.declared.query.What.{What}
+use Rattle.pk_parse.specs.declared.query.OrderPart.{OrderPart}
+use Rattle.pk_parse.specs.declared.table_part.TablePart.{TablePart}
 use Rattle.pk_parse.specs.Tokens.{Found, after_word, after_symbol, name_at}
-use Rattle.pk_parse.specs.Lists.{list_at, parens_at}
-use Rattle.pk_parse.specs.Statements.{column_at, tuple_at, create_at, insert_at, select_at, first_found, whole, read}
-use Rattle.pk_parse.specs.Grammar.{IsColumn, IsTuple, IsCreate, IsInsert, IsSelect, IsStatement, ReadsTheGrammar}
-use Rattle.pk_parse.proofs.Fronts.{bind_some, word_found, word_again, word_missed, symbol_found, symbol_again, name_found, name_again}
-use Rattle.pk_parse.proofs.CommaLists.{Ends, list_found, list_again, parens_read}
-use Rattle.pk_parse.proofs.PartReading.{column_read, tuple_read}
+use Rattle.pk_parse.specs.Lists.{list_at, parens_at, names_at}
+use Rattle.pk_parse.specs.Where.{where_at, IsWhere}
+use Rattle.pk_parse.specs.Edits.{tuple_at, set_at, listed_at, list_or_none_at, insert_at, update_at, delete_at}
+use Rattle.pk_parse.specs.Queries.{what_at, order_of_at, select_at}
+use Rattle.pk_parse.specs.Create.{part_at, key_at, declared, create_at}
+use Rattle.pk_parse.specs.Statements.{drop_at, session_at, show_at, implies_at, cover_at, examples_at, over_names_at, over_at, discover_at, alone, Reader, readers, found_by, statement_at, whole, read}
+use Rattle.pk_parse.specs.ConditionGrammar.{EndsCondition}
+use Rattle.pk_parse.specs.LiteralGrammar.{IsFree}
+use Rattle.pk_parse.specs.Grammar as grammar
+use Rattle.pk_parse.specs.Grammar.{IsName, InParens, Joined, IsNames, IsKey, IsTuple, IsSet, IsColumnList, IsOver, IsPart, IsWhat, IsOrder, IsStatement, ReadsTheGrammar}
+use Rattle.pk_parse.proofs.Fronts.{bind_some, behind_cases, Front, fronted, word_found, word_again, symbol_again, name_found, name_again}
+use Rattle.pk_parse.proofs.CommaLists.{Anything, nothing_ends, list_found, list_again, parens_read}
+use Rattle.pk_parse.proofs.PartReading.{names_read, parens_name_read, tuple_read, set_read}
+use Rattle.pk_parse.proofs.CreateReading.{NoMark, key_read, part_read}
+use Rattle.pk_parse.proofs.QueryReading.{what_found, what_back, order_found, order_again}
+use Rattle.pk_parse.proofs.WhereReading.{where_found, where_again, nothing_ends_where, order_ends_where, where_ends}
 
--- what stands before nothing is all
-all_of : (tokens front rest : List Token) → tokens ≡ front ++ rest → rest ≡ [] → tokens ≡ front
-all_of tokens front rest split none = split ∙ (ap (λ (ts : List Token). front ++ ts) none ∙ append-nil front)
+-- the tokens spell the statement behind this first word
+abbrev Behind : List ℕ → List Token → Statement → Type 0
+Behind word tokens s = IsStatement (Word word ∷ tokens) s
+
+-- what a reader finds behind its word is in the grammar
+abbrev Finds : Reader → Type 0
+Finds r = (tokens : List Token) (s : Statement) (rest : List Token) → r.1 tokens ≡ Some (s, rest) → Front (Behind r.0) tokens s rest
 
 -- ---- CREATE TABLE
 
-create_found : (tokens : List Token) (s : Statement) → create_at tokens ≡ Some (s, []) → IsStatement tokens s
+create_found : Finds (codes "create", create_at)
 unfolding create_at
-create_found tokens s e =
-    let a = bind_some (after_word (codes "create") tokens) _ (s, []) e in
-    let b = bind_some (after_word (codes "table") a.0) _ (s, []) a.2 in
-    let c = bind_some (name_at b.0) _ (s, []) b.2 in
-    let d = bind_some (parens_at column_at c.0.1) _ (s, []) c.2 in
-    let parts = some_pair_parts (Create (record { table = c.0.0; columns = d.0.0 })) s d.0.1 [] d.2 in
-    let first = word_found (codes "create") tokens a.0 a.1 in
-    let second = word_found (codes "table") a.0 b.0 b.1 in
-    let name = name_found b.0 c.0.0 c.0.1 c.1 in
-    let columns = (parens_read column_at IsColumn column_read).found c.0.1 d.0.0 d.0.1 d.1 in
-    let all : c.0.1 ≡ columns.0 = all_of c.0.1 columns.0 d.0.1 columns.1 parts.1 in
-    let spelled : tokens ≡ Word (codes "create") ∷ Word (codes "table") ∷ Word c.0.0 ∷ columns.0 = cc (first, second, name.0, all) in
-    subst (IsStatement tokens) parts.0 (name.1, columns.0, spelled, columns.2)
-
-create_again : (tokens : List Token) (d : TableDecl) → IsCreate tokens d → create_at tokens ≡ Some (Create d, [])
-unfolding create_at
-create_again tokens d is =
-    let columns : parens_at column_at is.1 ≡ Some (d.columns, []) = ap (parens_at column_at) (sym (append-nil is.1)) ∙ (parens_read column_at IsColumn column_read).again is.1 d.columns [] is.3 in
-    ap create_at is.2 ∙ rw (word_again (codes "create") (Word (codes "table") ∷ Word d.table ∷ is.1), word_again (codes "table") (Word d.table ∷ is.1), name_again d.table is.1 is.0, columns) refl
+create_found tokens s rest e =
+    let a = bind_some (after_word (codes "table") tokens) _ (s, rest) e in
+    let b = bind_some (name_at a.0) _ (s, rest) a.2 in
+    let c = bind_some (parens_at part_at b.0.1) _ (s, rest) b.2 in
+    let d = bind_some (declared b.0.0 c.0.0) _ (s, rest) c.2 in
+    let name = name_found a.0 b.0.0 b.0.1 b.1 in
+    let parts = (parens_read part_at IsPart NoMark part_read).found b.0.1 c.0.0 c.0.1 c.1 in
+    fronted (Behind (codes "create")) tokens (Word (codes "table") ∷ Word b.0.0 ∷ parts.0) c.0.1 rest (Create d.0) s
+    (cc (word_found (codes "table") tokens a.0 a.1, name.0, parts.1)) (grammar.create b.0.0 parts.0 c.0.0 d.0 name.1 parts.2 d.1) d.2
 
 -- ---- INSERT
 
-insert_found : (tokens : List Token) (s : Statement) → insert_at tokens ≡ Some (s, []) → IsStatement tokens s
-unfolding insert_at
-insert_found tokens s e =
-    let a = bind_some (after_word (codes "insert") tokens) _ (s, []) e in
-    let b = bind_some (after_word (codes "into") a.0) _ (s, []) a.2 in
-    let c = bind_some (name_at b.0) _ (s, []) b.2 in
-    let d = bind_some (after_word (codes "values") c.0.1) _ (s, []) c.2 in
-    let f = bind_some (list_at tuple_at d.0) _ (s, []) d.2 in
-    let parts = some_pair_parts (InsertInto (record { table = c.0.0; rows = f.0.0 })) s f.0.1 [] f.2 in
-    let first = word_found (codes "insert") tokens a.0 a.1 in
-    let second = word_found (codes "into") a.0 b.0 b.1 in
-    let name = name_found b.0 c.0.0 c.0.1 c.1 in
-    let third = word_found (codes "values") c.0.1 d.0 d.1 in
-    let rows = list_found tuple_at IsTuple tuple_read d.0 f.0.0 f.0.1 f.1 in
-    let all : d.0 ≡ rows.0 = all_of d.0 rows.0 f.0.1 rows.1 parts.1 in
-    let spelled : tokens ≡ Word (codes "insert") ∷ Word (codes "into") ∷ Word c.0.0 ∷ Word (codes "values") ∷ rows.0 = cc (first, second, name.0, third, all) in
-    subst (IsStatement tokens) parts.0 (name.1, rows.0, spelled, rows.2)
+listed_found : (tokens : List Token) (columns : Option (List (List ℕ))) (rest : List Token) → list_or_none_at tokens ≡ Some (columns, rest) → Front IsColumnList tokens columns rest
+unfolding list_or_none_at listed_at
+listed_found tokens columns rest e =
+    elim (behind_cases (after_symbol LeftParen tokens) _ _ _ e) [
+      | inl h ↦
+          let a = bind_some (parens_at name_at tokens) _ (columns, rest) h.2 in
+          let names = parens_name_read.found tokens a.0.0 a.0.1 a.1 in
+          fronted IsColumnList tokens names.0 a.0.1 rest (Some a.0.0) columns names.1 (grammar.these_columns names.0 a.0.0 names.2) a.2
+      | inr h ↦ fronted IsColumnList tokens [] tokens rest None columns refl grammar.all_columns h.1
+    ]
 
-nothing_ends : Ends []
+no_paren : (word : List ℕ) (rest : List Token) → after_symbol LeftParen (Word word ∷ rest) ≡ None
 unfolding after_symbol
-nothing_ends = refl
+no_paren word rest = refl
 
-insert_again : (tokens : List Token) (i : Insert) → IsInsert tokens i → insert_at tokens ≡ Some (InsertInto i, [])
+listed_again : (front : List Token) (columns : Option (List (List ℕ))) (word : List ℕ) (rest : List Token) → IsColumnList front columns → list_or_none_at (front ++ Word word ∷ rest) ≡ Some (columns, Word word ∷ rest)
+unfolding list_or_none_at listed_at
+listed_again front columns word rest grammar.all_columns = rw (no_paren word rest) refl
+listed_again front columns word rest (grammar.these_columns tokens names parens) =
+    let opens = ap (λ (ts : List Token). after_symbol LeftParen (ts ++ Word word ∷ rest)) parens.1 ∙ symbol_again LeftParen _ in
+    rw (opens, parens_name_read.again tokens names (Word word ∷ rest) parens tt) refl
+
+insert_found : Finds (codes "insert", insert_at)
 unfolding insert_at
-insert_again tokens i is =
-    let rows : list_at tuple_at is.1 ≡ Some (i.rows, []) = ap (list_at tuple_at) (sym (append-nil is.1)) ∙ list_again tuple_at IsTuple tuple_read i.rows is.1 [] nothing_ends is.3 in
-    ap insert_at is.2 ∙ rw (word_again (codes "insert") (Word (codes "into") ∷ Word i.table ∷ Word (codes "values") ∷ is.1), word_again (codes "into") (Word i.table ∷ Word (codes "values") ∷ is.1), name_again i.table (Word (codes "values") ∷ is.1) is.0, word_again (codes "values") is.1, rows) refl
+insert_found tokens s rest e =
+    let a = bind_some (after_word (codes "into") tokens) _ (s, rest) e in
+    let b = bind_some (name_at a.0) _ (s, rest) a.2 in
+    let c = bind_some (list_or_none_at b.0.1) _ (s, rest) b.2 in
+    let d = bind_some (after_word (codes "values") c.0.1) _ (s, rest) c.2 in
+    let f = bind_some (list_at tuple_at d.0) _ (s, rest) d.2 in
+    let name = name_found a.0 b.0.0 b.0.1 b.1 in
+    let listed = listed_found b.0.1 c.0.0 c.0.1 c.1 in
+    let values = word_found (codes "values") c.0.1 d.0 d.1 in
+    let rows = list_found tuple_at IsTuple Anything tuple_read d.0 f.0.0 f.0.1 f.1 in
+    let behind : b.0.1 ≡ (listed.0 ++ Word (codes "values") ∷ rows.0) ++ f.0.1 =
+    listed.1 ∙ ap (λ (ts : List Token). listed.0 ++ ts) (values ∙ ap (λ (ts : List Token). Word (codes "values") ∷ ts) rows.1) ∙ sym (append_assoc listed.0 (Word (codes "values") ∷ rows.0) f.0.1) in
+    fronted (Behind (codes "insert")) tokens (Word (codes "into") ∷ Word b.0.0 ∷ listed.0 ++ Word (codes "values") ∷ rows.0) f.0.1 rest (Insert (record { table = b.0.0; columns = c.0.0; rows = f.0.0 })) s
+    (word_found (codes "into") tokens a.0 a.1 ∙ ap (λ (ts : List Token). Word (codes "into") ∷ ts) (name.0 ∙ ap (λ (ts : List Token). Word b.0.0 ∷ ts) behind)) (grammar.insert b.0.0 listed.0 rows.0 c.0.0 f.0.0 name.1 listed.2 rows.2) f.2
+
+-- ---- UPDATE and DELETE
+
+update_found : Finds (codes "update", update_at)
+unfolding update_at
+update_found tokens s rest e =
+    let a = bind_some (name_at tokens) _ (s, rest) e in
+    let b = bind_some (after_word (codes "set") a.0.1) _ (s, rest) a.2 in
+    let c = bind_some (list_at set_at b.0) _ (s, rest) b.2 in
+    let d = bind_some (where_at c.0.1) _ (s, rest) c.2 in
+    let name = name_found tokens a.0.0 a.0.1 a.1 in
+    let sets = list_found set_at IsSet Anything set_read b.0 c.0.0 c.0.1 c.1 in
+    let tests = where_found c.0.1 d.0.0 d.0.1 d.1 in
+    let behind : b.0 ≡ (sets.0 ++ tests.0) ++ d.0.1 = sets.1 ∙ ap (λ (ts : List Token). sets.0 ++ ts) tests.1 ∙ sym (append_assoc sets.0 tests.0 d.0.1) in
+    fronted (Behind (codes "update")) tokens (Word a.0.0 ∷ Word (codes "set") ∷ sets.0 ++ tests.0) d.0.1 rest (Update (record { table = a.0.0; sets = c.0.0; cond = d.0.0 })) s
+    (cc (name.0, word_found (codes "set") a.0.1 b.0 b.1, behind)) (grammar.update a.0.0 sets.0 tests.0 c.0.0 d.0.0 name.1 sets.2 tests.2) d.2
+
+delete_found : Finds (codes "delete", delete_at)
+unfolding delete_at
+delete_found tokens s rest e =
+    let a = bind_some (after_word (codes "from") tokens) _ (s, rest) e in
+    let b = bind_some (name_at a.0) _ (s, rest) a.2 in
+    let c = bind_some (where_at b.0.1) _ (s, rest) b.2 in
+    let name = name_found a.0 b.0.0 b.0.1 b.1 in
+    let tests = where_found b.0.1 c.0.0 c.0.1 c.1 in
+    fronted (Behind (codes "delete")) tokens (Word (codes "from") ∷ Word b.0.0 ∷ tests.0) c.0.1 rest (Delete (record { table = b.0.0; cond = c.0.0 })) s
+    (cc (word_found (codes "from") tokens a.0 a.1, name.0, tests.1)) (grammar.delete b.0.0 tests.0 c.0.0 name.1 tests.2) c.2
 
 -- ---- SELECT
 
-select_found : (tokens : List Token) (s : Statement) → select_at tokens ≡ Some (s, []) → IsStatement tokens s
+select_found : Finds (codes "select", select_at)
 unfolding select_at
-select_found tokens s e =
-    let a = bind_some (after_word (codes "select") tokens) _ (s, []) e in
-    let b = bind_some (after_symbol Star a.0) _ (s, []) a.2 in
-    let c = bind_some (after_word (codes "from") b.0) _ (s, []) b.2 in
-    let d = bind_some (name_at c.0) _ (s, []) c.2 in
-    let parts = some_pair_parts (SelectFrom (record { table = d.0.0 })) s d.0.1 [] d.2 in
-    let first = word_found (codes "select") tokens a.0 a.1 in
-    let second = symbol_found Star a.0 b.0 b.1 in
-    let third = word_found (codes "from") b.0 c.0 c.1 in
-    let name = name_found c.0 d.0.0 d.0.1 d.1 in
-    let spelled : tokens ≡ Word (codes "select") ∷ Sign Star ∷ Word (codes "from") ∷ Word d.0.0 ∷ [] = cc (first, second, third, name.0, parts.1) in
-    subst (IsStatement tokens) parts.0 (name.1, spelled)
+select_found tokens s rest e =
+    let a = bind_some (what_at tokens) _ (s, rest) e in
+    let b = bind_some (after_word (codes "from") a.0.1) _ (s, rest) a.2 in
+    let c = bind_some (name_at b.0) _ (s, rest) b.2 in
+    let d = bind_some (where_at c.0.1) _ (s, rest) c.2 in
+    let f = bind_some (order_of_at a.0.0 d.0.1) _ (s, rest) d.2 in
+    let what = what_found tokens a.0.0 a.0.1 a.1 in
+    let from = word_found (codes "from") a.0.1 b.0 b.1 in
+    let name = name_found b.0 c.0.0 c.0.1 c.1 in
+    let tests = where_found c.0.1 d.0.0 d.0.1 d.1 in
+    let order = order_found a.0.0 d.0.1 f.0.0 f.0.1 f.1 in
+    let last : c.0.1 ≡ (tests.0 ++ order.0) ++ f.0.1 = tests.1 ∙ ap (λ (ts : List Token). tests.0 ++ ts) order.1 ∙ sym (append_assoc tests.0 order.0 f.0.1) in
+    let from_on : a.0.1 ≡ (Word (codes "from") ∷ Word c.0.0 ∷ tests.0 ++ order.0) ++ f.0.1 =
+    from ∙ ap (λ (ts : List Token). Word (codes "from") ∷ ts) (name.0 ∙ ap (λ (ts : List Token). Word c.0.0 ∷ ts) last) in
+    let all : tokens ≡ (what.0 ++ (Word (codes "from") ∷ Word c.0.0 ∷ tests.0 ++ order.0)) ++ f.0.1 =
+    what.1 ∙ ap (λ (ts : List Token). what.0 ++ ts) from_on ∙ sym (append_assoc what.0 (Word (codes "from") ∷ Word c.0.0 ∷ tests.0 ++ order.0) f.0.1) in
+    fronted (Behind (codes "select")) tokens (what.0 ++ (Word (codes "from") ∷ Word c.0.0 ∷ tests.0 ++ order.0)) f.0.1 rest (Select (record { table = c.0.0; what = a.0.0; cond = d.0.0; order = f.0.0 })) s
+    all (grammar.select c.0.0 what.0 tests.0 order.0 a.0.0 d.0.0 f.0.0 name.1 what.2 tests.2 order.2) f.2
 
-select_again : (tokens : List Token) (s : Select) → IsSelect tokens s → select_at tokens ≡ Some (SelectFrom s, [])
-unfolding select_at
-select_again tokens s is =
-    ap select_at is.1 ∙ rw (word_again (codes "select") (Sign Star ∷ Word (codes "from") ∷ Word s.table ∷ []), symbol_again Star (Word (codes "from") ∷ Word s.table ∷ []), word_again (codes "from") (Word s.table ∷ []), name_again s.table [] is.0) refl
+-- ---- the others
+
+drop_found : Finds (codes "drop", drop_at)
+unfolding drop_at
+drop_found tokens s rest e =
+    let a = bind_some (after_word (codes "table") tokens) _ (s, rest) e in
+    let b = bind_some (name_at a.0) _ (s, rest) a.2 in
+    let name = name_found a.0 b.0.0 b.0.1 b.1 in
+    fronted (Behind (codes "drop")) tokens (Word (codes "table") ∷ Word b.0.0 ∷ []) b.0.1 rest (Drop b.0.0) s (cc (word_found (codes "table") tokens a.0 a.1, name.0)) (grammar.drop b.0.0 name.1) b.2
+
+session_found : Finds (codes "session", session_at)
+unfolding session_at
+session_found tokens s rest e =
+    let a = bind_some (name_at tokens) _ (s, rest) e in
+    let name = name_found tokens a.0.0 a.0.1 a.1 in
+    fronted (Behind (codes "session")) tokens (Word a.0.0 ∷ []) a.0.1 rest (Session a.0.0) s name.0 (grammar.session a.0.0 name.1) a.2
+
+show_found : Finds (codes "show", show_at)
+unfolding show_at
+show_found tokens s rest e =
+    let a = bind_some (after_word (codes "create") tokens) _ (s, rest) e in
+    let b = bind_some (after_word (codes "table") a.0) _ (s, rest) a.2 in
+    let c = bind_some (name_at b.0) _ (s, rest) b.2 in
+    let name = name_found b.0 c.0.0 c.0.1 c.1 in
+    fronted (Behind (codes "show")) tokens (Word (codes "create") ∷ Word (codes "table") ∷ Word c.0.0 ∷ []) c.0.1 rest (Show c.0.0) s
+    (cc (word_found (codes "create") tokens a.0 a.1, word_found (codes "table") a.0 b.0 b.1, name.0)) (grammar.show c.0.0 name.1) c.2
+
+implies_found : Finds (codes "implies", implies_at)
+unfolding implies_at
+implies_found tokens s rest e =
+    let a = bind_some (name_at tokens) _ (s, rest) e in
+    let b = bind_some (key_at a.0.1) _ (s, rest) a.2 in
+    let name = name_found tokens a.0.0 a.0.1 a.1 in
+    let key = key_read.found a.0.1 b.0.0 b.0.1 b.1 in
+    fronted (Behind (codes "implies")) tokens (Word a.0.0 ∷ key.0) b.0.1 rest (Implies a.0.0 b.0.0) s (cc (name.0, key.1)) (grammar.implies a.0.0 key.0 b.0.0 name.1 key.2) b.2
+
+cover_found : Finds (codes "cover", cover_at)
+unfolding cover_at
+cover_found tokens s rest e =
+    let a = bind_some (after_word (codes "of") tokens) _ (s, rest) e in
+    let b = bind_some (name_at a.0) _ (s, rest) a.2 in
+    let name = name_found a.0 b.0.0 b.0.1 b.1 in
+    fronted (Behind (codes "cover")) tokens (Word (codes "of") ∷ Word b.0.0 ∷ []) b.0.1 rest (Cover b.0.0) s (cc (word_found (codes "of") tokens a.0 a.1, name.0)) (grammar.cover b.0.0 name.1) b.2
+
+examples_found : Finds (codes "examples", examples_at)
+unfolding examples_at
+examples_found tokens s rest e =
+    let a = bind_some (after_word (codes "of") tokens) _ (s, rest) e in
+    let b = bind_some (name_at a.0) _ (s, rest) a.2 in
+    let name = name_found a.0 b.0.0 b.0.1 b.1 in
+    fronted (Behind (codes "examples")) tokens (Word (codes "of") ∷ Word b.0.0 ∷ []) b.0.1 rest (Examples b.0.0) s (cc (word_found (codes "of") tokens a.0 a.1, name.0)) (grammar.examples b.0.0 name.1) b.2
+
+over_found : (tokens : List Token) (over : Option (List (List ℕ))) (rest : List Token) → over_at tokens ≡ Some (over, rest) → Front IsOver tokens over rest
+unfolding over_at over_names_at
+over_found tokens over rest e =
+    elim (behind_cases (after_word (codes "over") tokens) _ _ _ e) [
+      | inl h ↦
+          let a = bind_some (names_at h.0) _ (over, rest) h.2 in
+          let names = names_read.found h.0 a.0.0 a.0.1 a.1 in
+          fronted IsOver tokens (Word (codes "over") ∷ names.0) a.0.1 rest (Some a.0.0) over (cc (word_found (codes "over") tokens h.0 h.1, names.1)) (grammar.over_names names.0 a.0.0 names.2) a.2
+      | inr h ↦ fronted IsOver tokens [] tokens rest None over refl grammar.over_all h.1
+    ]
+
+over_again : (tokens : List Token) (over : Option (List (List ℕ))) → IsOver tokens over → over_at tokens ≡ Some (over, [])
+unfolding over_at over_names_at after_word
+over_again tokens over grammar.over_all = refl
+over_again tokens over (grammar.over_names behind names is) = rw (ap names_at (sym (append-nil behind)) ∙ names_read.again behind names [] is tt) refl
+
+discover_found : Finds (codes "discover", discover_at)
+unfolding discover_at
+discover_found tokens s rest e =
+    let a = bind_some (after_word (codes "keys") tokens) _ (s, rest) e in
+    let b = bind_some (after_word (codes "from") a.0) _ (s, rest) a.2 in
+    let c = bind_some (name_at b.0) _ (s, rest) b.2 in
+    let d = bind_some (over_at c.0.1) _ (s, rest) c.2 in
+    let name = name_found b.0 c.0.0 c.0.1 c.1 in
+    let over = over_found c.0.1 d.0.0 d.0.1 d.1 in
+    fronted (Behind (codes "discover")) tokens (Word (codes "keys") ∷ Word (codes "from") ∷ Word c.0.0 ∷ over.0) d.0.1 rest (Discover c.0.0 d.0.0) s
+    (cc (word_found (codes "keys") tokens a.0 a.1, word_found (codes "from") a.0 b.0 b.1, name.0, over.1)) (grammar.discover c.0.0 over.0 d.0.0 name.1 over.2) d.2
+
+alone_found : (word : List ℕ) (made : Statement) → IsStatement (Word word ∷ []) made → Finds (word, alone made)
+alone_found word made is tokens s rest e = fronted (Behind word) tokens [] tokens rest made s refl is e
 
 -- ---- the statements together
 
--- What a reader found is in the grammar, and it finds nothing where another word than its own comes first.
-record IsReading (tokens : List Token) (word : List ℕ) (reading : Found Statement) : Type 0 where
-  found : (s : Statement) → reading ≡ Some (s, []) → IsStatement tokens s
-  misses : (w : List ℕ) (behind : List Token) → tokens ≡ Word w ∷ behind → bytes_eq w word ≡ false → reading ≡ None
+abbrev AllFind : List Reader → Type 0
+AllFind [] = Unit {0}
+AllFind (r ∷ rs) = Finds r × AllFind rs
 
-create_reading : (tokens : List Token) → IsReading tokens (codes "create") (create_at tokens)
-unfolding create_at
-create_reading tokens = record { found = create_found tokens; misses = λ w behind first other. rw (word_missed (codes "create") w tokens behind first other) refl }
+all_find : AllFind readers
+all_find = (
+  create_found,
+  (
+    insert_found,
+    (
+      select_found,
+      (
+        update_found,
+        (
+          delete_found,
+          (
+            drop_found,
+            (
+              alone_found (codes "begin") Begin grammar.begin,
+              (
+                alone_found (codes "commit") Commit grammar.commit,
+                (
+                  alone_found (codes "rollback") Rollback grammar.rollback,
+                  (session_found, (show_found, (implies_found, (cover_found, (examples_found, (discover_found, (alone_found (codes "checkpoint") Checkpoint grammar.checkpoint, tt))))))),
+                ),
+              ),
+            ),
+          ),
+        ),
+      ),
+    ),
+  ),
+)
 
-insert_reading : (tokens : List Token) → IsReading tokens (codes "insert") (insert_at tokens)
-unfolding insert_at
-insert_reading tokens = record { found = insert_found tokens; misses = λ w behind first other. rw (word_missed (codes "insert") w tokens behind first other) refl }
-
-select_reading : (tokens : List Token) → IsReading tokens (codes "select") (select_at tokens)
-unfolding select_at
-select_reading tokens = record { found = select_found tokens; misses = λ w behind first other. rw (word_missed (codes "select") w tokens behind first other) refl }
-
--- what the readers find, each with its own first word
-abbrev readings : List Token → List (List ℕ × Found Statement)
-readings tokens = (codes "create", create_at tokens) ∷ (codes "insert", insert_at tokens) ∷ (codes "select", select_at tokens) ∷ []
-
-abbrev AreReadings : List Token → List (List ℕ × Found Statement) → Type 0
-AreReadings tokens [] = Unit {0}
-AreReadings tokens (r ∷ rs) = IsReading tokens r.0 r.1 × AreReadings tokens rs
-
-are_readings : (tokens : List Token) → AreReadings tokens (readings tokens)
-are_readings tokens = (create_reading tokens, (insert_reading tokens, (select_reading tokens, tt)))
-
-first_is : (tokens : List Token) (rs : List (List ℕ × Found Statement)) → AreReadings tokens rs → (s : Statement) → first_found (map (λ r. r.1) rs) ≡ Some (s, []) → IsStatement tokens s
-first_is tokens [] each s e = absurd cc
-first_is tokens ((word, Some x) ∷ rs) each s e = each.0.found s e
-first_is tokens ((word, None) ∷ rs) each s e = first_is tokens rs each.1 s e
-
--- the reader whose own word this is finds the statement
-abbrev Picks : List ℕ → List (List ℕ × Found Statement) → Statement → Type 0
-Picks w [] s = ⊥
-Picks w (r ∷ rs) s = MatchBool (bytes_eq w r.0) (r.1 ≡ Some (s, [])) (Picks w rs s)
-
-picked : (tokens : List Token) (rs : List (List ℕ × Found Statement)) → AreReadings tokens rs → (w : List ℕ) (behind : List Token) → tokens ≡ Word w ∷ behind → (s : Statement) → Picks w rs s
-    → first_found (map (λ r. r.1) rs) ≡ Some (s, [])
-picked tokens [] each w behind first s picks = absurd picks
-picked tokens (r ∷ rs) each w behind first s picks = go (bytes_eq w r.0) refl (λ later. picked tokens rs each.1 w behind first s later) picks
+first_is : (rs : List Reader) → AllFind rs → (word : List ℕ) (tokens : List Token) (s : Statement) (rest : List Token) → found_by rs word tokens ≡ Some (s, rest) → Front (Behind word) tokens s rest
+first_is [] each word tokens s rest e = absurd cc
+first_is (r ∷ rs) each word tokens s rest e = go (bytes_eq word r.0) refl e (λ later. first_is rs each.1 word tokens s rest later)
   where
-    go : (b : Bool) → bytes_eq w r.0 ≡ b → (Picks w rs s → first_found (map (λ r. r.1) rs) ≡ Some (s, [])) → MatchBool b (r.1 ≡ Some (s, [])) (Picks w rs s) → first_found (map (λ r. r.1) (r ∷ rs)) ≡ Some (s, [])
-    go true own rest picks = rw picks refl
-    go false other rest picks = rw (each.0.misses w behind first other) (rest picks)
+    go : (b : Bool) → bytes_eq word r.0 ≡ b → cond b (r.1 tokens) (found_by rs word tokens) ≡ Some (s, rest)
+        → (found_by rs word tokens ≡ Some (s, rest) → Front (Behind word) tokens s rest) → Front (Behind word) tokens s rest
+    go true own e others = subst (λ w. Front (Behind w) tokens s rest) (sym ((bytes_eq-Decides word r.0).0 own)) (each.0 tokens s rest e)
+    go false other e others = others e
 
 whole_is : {A : Type 0} (o : Found A) (x : A) → whole o ≡ Some x → o ≡ Some (x, [])
 whole_is None x e = absurd cc
 whole_is (Some (y, [])) x e = cc
 whole_is (Some (y, t ∷ ts)) x e = absurd cc
 
+statement_found : (tokens : List Token) (s : Statement) → statement_at tokens ≡ Some (s, []) → IsStatement tokens s
+unfolding statement_at
+statement_found [] s e = absurd cc
+statement_found (Number digits ∷ ts) s e = absurd cc
+statement_found (Text bytes ∷ ts) s e = absurd cc
+statement_found (Sign symbol ∷ ts) s e = absurd cc
+statement_found (Word word ∷ ts) s e =
+    let found = first_is readers all_find word ts s [] e in
+    subst (λ (all : List Token). IsStatement (Word word ∷ all) s) (sym (found.1 ∙ append-nil found.0)) found.2
+
 read_found : (tokens : List Token) (s : Statement) → read tokens ≡ Some s → IsStatement tokens s
 unfolding read
-read_found tokens s e = first_is tokens (readings tokens) (are_readings tokens) s (whole_is _ s e)
+read_found tokens s e = statement_found tokens s (whole_is (statement_at tokens) s e)
 
-read_picked : (tokens : List Token) (w : List ℕ) (behind : List Token) → tokens ≡ Word w ∷ behind → (s : Statement) → Picks w (readings tokens) s → read tokens ≡ Some s
-unfolding read
-read_picked tokens w behind first s picks = ap whole (picked tokens (readings tokens) (are_readings tokens) w behind first s picks)
+-- what the word's reader finds is what is read
+read_by : (word : List ℕ) (tokens : List Token) (s : Statement) → found_by readers word tokens ≡ Some (s, []) → read (Word word ∷ tokens) ≡ Some s
+unfolding read statement_at
+read_by word tokens s e = ap whole e
+
+create_again : (table : List ℕ) (tokens : List Token) (parts : List TablePart) (decl : TableDecl) → IsFree table → InParens IsPart tokens parts → declared table parts ≡ Some decl → create_at (Word (codes "table") ∷ Word table ∷ tokens) ≡ Some (Create decl, [])
+unfolding create_at
+create_again table tokens parts decl free is declares =
+    let all : parens_at part_at tokens ≡ Some (parts, []) = ap (parens_at part_at) (sym (append-nil tokens)) ∙ (parens_read part_at IsPart NoMark part_read).again tokens parts [] is tt in
+    rw (word_again (codes "table") (Word table ∷ tokens), name_again table tokens free, all, declares) refl
+
+insert_again : (table : List ℕ) (listed tuples : List Token) (columns : Option (List (List ℕ))) (rows : List (List Literal)) → IsFree table → IsColumnList listed columns → Joined IsTuple tuples rows
+    → insert_at (Word (codes "into") ∷ Word table ∷ listed ++ Word (codes "values") ∷ tuples) ≡ Some (Insert (record { table = table; columns = columns; rows = rows }), [])
+unfolding insert_at
+insert_again table listed tuples columns rows free lists joined =
+    let all : list_at tuple_at tuples ≡ Some (rows, []) = ap (list_at tuple_at) (sym (append-nil tuples)) ∙ list_again tuple_at IsTuple Anything tuple_read rows tuples [] nothing_ends tt joined in
+    rw (word_again (codes "into") (Word table ∷ listed ++ Word (codes "values") ∷ tuples), name_again table (listed ++ Word (codes "values") ∷ tuples) free, listed_again listed columns (codes "values") tuples lists, word_again (codes "values") tuples, all) refl
+
+-- a condition at the end
+where_last : (tokens : List Token) (cond : Option Test) → IsWhere tokens cond → where_at tokens ≡ Some (cond, [])
+where_last tokens cond is = ap where_at (sym (append-nil tokens)) ∙ where_again tokens cond [] nothing_ends_where.0 nothing_ends_where.1 is
+
+update_again : (table : List ℕ) (parts behind : List Token) (sets : List SetPart) (cond : Option Test) → IsFree table → Joined IsSet parts sets → IsWhere behind cond
+    → update_at (Word table ∷ Word (codes "set") ∷ parts ++ behind) ≡ Some (Update (record { table = table; sets = sets; cond = cond }), [])
+unfolding update_at
+update_again table parts behind sets cond free joined tests =
+    rw (name_again table (Word (codes "set") ∷ parts ++ behind) free, word_again (codes "set") (parts ++ behind), list_again set_at IsSet Anything set_read sets parts behind (where_ends behind cond tests) tt joined, where_last behind cond tests) refl
+
+delete_again : (table : List ℕ) (behind : List Token) (cond : Option Test) → IsFree table → IsWhere behind cond → delete_at (Word (codes "from") ∷ Word table ∷ behind) ≡ Some (Delete (record { table = table; cond = cond }), [])
+unfolding delete_at
+delete_again table behind cond free tests = rw (word_again (codes "from") (Word table ∷ behind), name_again table behind free, where_last behind cond tests) refl
+
+-- an order goes on no condition
+order_follows : (what : What) (tokens : List Token) (parts : List OrderPart) → IsOrder what tokens parts → (after_word (codes "where") tokens ≡ None) × EndsCondition tokens
+order_follows what tokens parts (grammar.no_order asked) = nothing_ends_where
+order_follows what tokens parts (grammar.all_order behind ps joined) = order_ends_where (Word (codes "by") ∷ behind)
+order_follows what tokens parts (grammar.columns_order names behind ps joined) = order_ends_where (Word (codes "by") ∷ behind)
+
+select_again : (table : List ℕ) (asked tests ordered : List Token) (what : What) (cond : Option Test) (order : List OrderPart) → IsFree table → IsWhat asked what → IsWhere tests cond → IsOrder what ordered order
+    → select_at (asked ++ (Word (codes "from") ∷ Word table ∷ tests ++ ordered)) ≡ Some (Select (record { table = table; what = what; cond = cond; order = order }), [])
+unfolding select_at
+select_again table asked tests ordered what cond order free asks tested orders =
+    rw (what_back asked what (codes "from") (Word table ∷ tests ++ ordered) asks, word_again (codes "from") (Word table ∷ tests ++ ordered), name_again table (tests ++ ordered) free, where_again tests cond ordered (order_follows what ordered order orders).0 (order_follows what ordered order orders).1 tested, order_again what ordered order orders) refl
+
+named_again : (table : List ℕ) → IsFree table → name_at (Word table ∷ []) ≡ Some (table, [])
+named_again table free = name_again table [] free
+
+drop_again : (table : List ℕ) → IsFree table → drop_at (Word (codes "table") ∷ Word table ∷ []) ≡ Some (Drop table, [])
+unfolding drop_at
+drop_again table free = rw (word_again (codes "table") (Word table ∷ []), named_again table free) refl
+
+session_again : (name : List ℕ) → IsFree name → session_at (Word name ∷ []) ≡ Some (Session name, [])
+unfolding session_at
+session_again name free = rw (named_again name free) refl
+
+show_again : (table : List ℕ) → IsFree table → show_at (Word (codes "create") ∷ Word (codes "table") ∷ Word table ∷ []) ≡ Some (Show table, [])
+unfolding show_at
+show_again table free = rw (word_again (codes "create") (Word (codes "table") ∷ Word table ∷ []), word_again (codes "table") (Word table ∷ []), named_again table free) refl
+
+implies_again : (table : List ℕ) (tokens : List Token) (key : KeyText) → IsFree table → IsKey tokens key → implies_at (Word table ∷ tokens) ≡ Some (Implies table key, [])
+unfolding implies_at
+implies_again table tokens key free is = rw (name_again table tokens free, ap key_at (sym (append-nil tokens)) ∙ key_read.again tokens key [] is tt) refl
+
+cover_again : (table : List ℕ) → IsFree table → cover_at (Word (codes "of") ∷ Word table ∷ []) ≡ Some (Cover table, [])
+unfolding cover_at
+cover_again table free = rw (word_again (codes "of") (Word table ∷ []), named_again table free) refl
+
+examples_again : (table : List ℕ) → IsFree table → examples_at (Word (codes "of") ∷ Word table ∷ []) ≡ Some (Examples table, [])
+unfolding examples_at
+examples_again table free = rw (word_again (codes "of") (Word table ∷ []), named_again table free) refl
+
+discover_again : (table : List ℕ) (tokens : List Token) (over : Option (List (List ℕ))) → IsFree table → IsOver tokens over → discover_at (Word (codes "keys") ∷ Word (codes "from") ∷ Word table ∷ tokens) ≡ Some (Discover table over, [])
+unfolding discover_at
+discover_again table tokens over free is = rw (word_again (codes "keys") (Word (codes "from") ∷ Word table ∷ tokens), word_again (codes "from") (Word table ∷ tokens), name_again table tokens free, over_again tokens over is) refl
 
 read_again : (tokens : List Token) (s : Statement) → IsStatement tokens s → read tokens ≡ Some s
-read_again tokens (Create d) is = read_picked tokens (codes "create") _ is.2 (Create d) (create_again tokens d is)
-read_again tokens (InsertInto i) is = read_picked tokens (codes "insert") _ is.2 (InsertInto i) (insert_again tokens i is)
-read_again tokens (SelectFrom s) is = read_picked tokens (codes "select") _ is.1 (SelectFrom s) (select_again tokens s is)
+read_again tokens s (grammar.create table ts parts decl free is declares) = read_by (codes "create") _ _ (create_again table ts parts decl free is declares)
+read_again tokens s (grammar.drop table free) = read_by (codes "drop") _ _ (drop_again table free)
+read_again tokens s (grammar.insert table listed tuples columns rows free lists joined) = read_by (codes "insert") _ _ (insert_again table listed tuples columns rows free lists joined)
+read_again tokens s (grammar.update table parts behind sets cond free joined tests) = read_by (codes "update") _ _ (update_again table parts behind sets cond free joined tests)
+read_again tokens s (grammar.delete table behind cond free tests) = read_by (codes "delete") _ _ (delete_again table behind cond free tests)
+read_again tokens s (grammar.select table asked tests ordered what cond order free asks tested orders) = read_by (codes "select") _ _ (select_again table asked tests ordered what cond order free asks tested orders)
+read_again tokens s grammar.begin = read_by (codes "begin") [] Begin refl
+read_again tokens s grammar.commit = read_by (codes "commit") [] Commit refl
+read_again tokens s grammar.rollback = read_by (codes "rollback") [] Rollback refl
+read_again tokens s (grammar.session name free) = read_by (codes "session") _ _ (session_again name free)
+read_again tokens s (grammar.show table free) = read_by (codes "show") _ _ (show_again table free)
+read_again tokens s (grammar.implies table ts key free is) = read_by (codes "implies") _ _ (implies_again table ts key free is)
+read_again tokens s (grammar.cover table free) = read_by (codes "cover") _ _ (cover_again table free)
+read_again tokens s (grammar.examples table free) = read_by (codes "examples") _ _ (examples_again table free)
+read_again tokens s (grammar.discover table ts over free is) = read_by (codes "discover") _ _ (discover_again table ts over free is)
+read_again tokens s grammar.checkpoint = read_by (codes "checkpoint") [] Checkpoint refl
 
 pub reads_the_grammar : ReadsTheGrammar
 reads_the_grammar = record { found = read_found; only = read_again }

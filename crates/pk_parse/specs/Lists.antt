@@ -1,8 +1,8 @@
-use Rattle.std.specs.Prelude.{ℕ, List, [], ◌∷◌, length, Option, Some, None}
+use Rattle.std.specs.Prelude.{ℕ, List, [], ◌∷◌, length, Some}
 use Rattle.std.proofs.Common.{suc, zero}
 use Rattle.pk_lex.specs.declared.token.Token.{Token}
 use Rattle.pk_lex.specs.declared.token.Symbol.TheVariants.{Comma, LeftParen, RightParen}
-use Rattle.pk_parse.specs.Tokens.{Found, ◌>>=◌, after_symbol}
+use Rattle.pk_parse.specs.Tokens.{Found, ◌>>=◌, behind_or, after_symbol, name_at}
 
 -- an item, and the items behind it
 abbrev pub item_then : {A : Type 0} → Found A → (List Token → Found (List A)) → Found (List A)
@@ -11,15 +11,10 @@ item_then found more = do
   xs ← more x.1
   Some (x.0 ∷ xs.0, xs.1)
 
--- behind a comma, an item and what follows it; without one, nothing more
-abbrev pub comma_then : {A : Type 0} → Option (List Token) → List Token → (List Token → Found (List A)) → Found (List A)
-comma_then None tokens more = Some ([], tokens)
-comma_then (Some behind) tokens more = more behind
-
 -- items, each behind a comma, at most so many
 abbrev pub more_at : {A : Type 0} → (List Token → Found A) → ℕ → List Token → Found (List A)
 more_at item zero tokens = Some ([], tokens)
-more_at item (suc most) tokens = comma_then (after_symbol Comma tokens) tokens (λ behind. item_then (item behind) (more_at item most))
+more_at item (suc most) tokens = behind_or (after_symbol Comma tokens) (λ behind. item_then (item behind) (more_at item most)) (Some ([], tokens))
 
 -- at least one item, with commas between them
 unfoldable pub list_at : {A : Type 0} → (List Token → Found A) → List Token → Found (List A)
@@ -32,3 +27,9 @@ parens_at item tokens = do
   found ← list_at item inside
   behind ← after_symbol RightParen found.1
   Some (found.0, behind)
+
+-- ( ) or ( name , .. )
+unfoldable pub names_at : List Token → Found (List (List ℕ))
+names_at tokens = do
+  inside ← after_symbol LeftParen tokens
+  behind_or (after_symbol RightParen inside) (λ behind. Some ([], behind)) (parens_at name_at tokens)

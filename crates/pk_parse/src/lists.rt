@@ -1,13 +1,13 @@
 ghost use Rattle.std.specs.Prelude.{List};
 ghost use Rattle.pk_lex.specs.declared.token.Token.{Token as Entry};
 ghost use Rattle.pk_parse.specs.Reading.{Finds};
-ghost use Rattle.pk_parse.specs.Tokens.{Found};
-ghost use Rattle.pk_parse.specs.Lists.{list_at, parens_at};
+ghost use Rattle.pk_parse.specs.Tokens.{Found, name_at};
+ghost use Rattle.pk_parse.specs.Lists.{list_at, parens_at, names_at};
 
 use crate::miss::Miss;
-use crate::tokens::{after_symbol, expect_symbol};
+use crate::tokens::{after_symbol, expect_symbol, name_of};
 use pk_lex::{Symbol, Token};
-use pk_values::Items;
+use pk_values::{Items, Name};
 use std::alloc::Global;
 
 /// What may stand in a list with commas.
@@ -18,6 +18,14 @@ pub(crate) trait Part: Drop {
     /// Reads it.
     fn read(alloc: Global, tokens: &[Token]) -> Result<(Self, &[Token]), Miss>
         ensures { Finds result (at tokens.now) };
+}
+
+impl Part for Name {
+    ghost at = { name_at };
+
+    fn read(_alloc: Global, tokens: &[Token]) -> Result<(Name, &[Token]), Miss> {
+        name_of(tokens)
+    }
 }
 
 // At least one part, with commas between them, and the tokens behind the last.
@@ -54,4 +62,16 @@ pub(crate) fn parens_of<T: Part>(
     let (parts, behind) = list_of::<T>(alloc, inside)?;
     let behind = expect_symbol(Symbol::RightParen, behind)?;
     Ok((parts, behind))
+}
+
+// Names in parentheses, or nothing in parentheses.
+#[tactic(auto, unfolding(crate::specs::Lists::names_at))]
+pub(crate) fn names_of(alloc: Global, tokens: &[Token]) -> Result<(Items<Name>, &[Token]), Miss>
+    ensures { Finds result (names_at tokens.now) }
+{
+    let inside = expect_symbol(Symbol::LeftParen, tokens)?;
+    match after_symbol(Symbol::RightParen, inside) {
+        Some(behind) => Ok((Items::from_vec(Vec::new(alloc)), behind)),
+        None => parens_of::<Name>(alloc, tokens),
+    }
 }

@@ -2,7 +2,7 @@ ghost use Rattle.std.specs.Prelude.{◌≡◌};
 ghost use Rattle.pk_parse.specs.declared.miss.Miss.TheVariants.{Memory};
 
 use pk_values::Memory;
-use std::alloc::AllocFailed;
+use std::alloc::{AllocError, AllocFailed};
 
 /// Why tokens weren't read as what was asked for.
 #[derive(Clone, Copy, Debug, PartialEq, Eq)]
@@ -17,6 +17,14 @@ impl From<Memory> for Miss {
     ghost from_gives = { λ _ miss. miss ≡ Memory };
 
     fn from(_error: Memory) -> Miss {
+        Miss::Memory
+    }
+}
+
+impl From<AllocError> for Miss {
+    ghost from_gives = { λ _ miss. miss ≡ Memory };
+
+    fn from(_error: AllocError) -> Miss {
         Miss::Memory
     }
 }

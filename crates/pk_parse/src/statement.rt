@@ -1,47 +1,58 @@
+use crate::declaration::{KeyText, TableDecl};
+use crate::edit::{Delete, Insert, Update};
+use crate::query::Select;
 use pk_values::{Items, Name};
 
 /// A statement as it is written, before anything is known of the base.
 #[derive(Debug, Drop)]
 pub enum Statement {
-    /// `CREATE TABLE t (a INTEGER, b INTEGER)`
+    /// `CREATE TABLE t (a INTEGER NOT NULL, b TEXT, CERTAIN KEY (a, b))`
     Create(TableDecl),
-    /// `INSERT INTO t VALUES (1, 2)`
+    /// `DROP TABLE t`
+    Drop {
+        table: Name,
+    },
+    /// `INSERT INTO t (a, b) VALUES (1, 'x')`
     Insert(Insert),
-    /// `SELECT * FROM t`
+    /// `UPDATE t SET b = NULL WHERE a = 1`
+    Update(Update),
+    /// `DELETE FROM t WHERE a = 1`
+    Delete(Delete),
+    /// `SELECT a, b FROM t WHERE a = 1 ORDER BY b DESC`
     Select(Select),
-}
-
-/// The table that a CREATE TABLE declares.
-#[derive(Debug, Drop)]
-pub struct TableDecl {
-    pub table: Name,
-    /// At least one column, in the order of the text.
-    pub columns: Items<ColumnDecl>,
-}
-
-/// A column of INTEGER.
-#[derive(Debug, Drop)]
-pub struct ColumnDecl {
-    pub name: Name,
-}
-
-/// The rows that an INSERT puts at the end of a table.
-#[derive(Debug, Drop)]
-pub struct Insert {
-    pub table: Name,
-    /// At least one tuple of at least one literal, in the order of the text.
-    pub rows: Items<Items<Literal>>,
-}
-
-/// A value as it is written.
-#[derive(Debug, Drop)]
-pub enum Literal {
-    /// A number within 64 bits.
-    Number(i64),
-}
-
-/// All rows of a table, with all columns.
-#[derive(Debug, Drop)]
-pub struct Select {
-    pub table: Name,
+    /// `BEGIN`
+    Begin,
+    /// `COMMIT`
+    Commit,
+    /// `ROLLBACK`
+    Rollback,
+    /// `SESSION s`
+    Session {
+        name: Name,
+    },
+    /// `SHOW CREATE TABLE t`
+    Show {
+        table: Name,
+    },
+    /// `IMPLIES t CERTAIN KEY (a, b)`
+    Implies {
+        table: Name,
+        key: KeyText,
+    },
+    /// `COVER OF t`
+    Cover {
+        table: Name,
+    },
+    /// `EXAMPLES OF t`
+    Examples {
+        table: Name,
+    },
+    /// `DISCOVER KEYS FROM t OVER (a, b)`
+    Discover {
+        table: Name,
+        /// The columns asked for, or `None` where the statement lists none: all columns.
+        over: Option<Items<Name>>,
+    },
+    /// `CHECKPOINT`
+    Checkpoint,
 }

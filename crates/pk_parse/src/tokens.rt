@@ -1,6 +1,6 @@
 ghost use Rattle.std.specs.Prelude.{◌≡◌, option_map};
-ghost use Rattle.pk_parse.specs.Reading.{Finds, Passes};
-ghost use Rattle.pk_parse.specs.Tokens.{after_word, after_symbol, name_at};
+ghost use Rattle.pk_parse.specs.Reading.{Finds, FindsBytes, Passes};
+ghost use Rattle.pk_parse.specs.Tokens.{after_word, after_symbol, name_at, digits_at};
 
 use crate::miss::Miss;
 use crate::words::is_reserved;
@@ -20,7 +20,7 @@ pub(crate) fn after_word<'a>(word: &[u8], tokens: &'a [Token]) -> Option<&'a [To
                 None
             }
         }
-        [] | [Token::Number(_) | Token::Symbol(_), ..] => None,
+        [] | [Token::Number(_) | Token::Text(_) | Token::Symbol(_), ..] => None,
     }
 }
 
@@ -33,7 +33,7 @@ pub(crate) fn after_symbol(symbol: Symbol, tokens: &[Token]) -> Option<&[Token]>
         [Token::Symbol(first), behind @ ..] => {
             if *first == symbol { Some(behind) } else { None }
         }
-        [] | [Token::Word(_) | Token::Number(_), ..] => None,
+        [] | [Token::Word(_) | Token::Number(_) | Token::Text(_), ..] => None,
     }
 }
 
@@ -64,6 +64,17 @@ pub(crate) fn name_of(tokens: &[Token]) -> Result<(Name, &[Token]), Miss>
                 Ok((word.copy()?, behind))
             }
         }
-        [] | [Token::Number(_) | Token::Symbol(_), ..] => Err(Miss::NotStatement),
+        [] | [Token::Number(_) | Token::Text(_) | Token::Symbol(_), ..] => Err(Miss::NotStatement),
+    }
+}
+
+// The digits of a number, and the tokens behind it.
+#[tactic(auto, unfolding(crate::specs::Tokens::digits_at))]
+pub(crate) fn digits_of(tokens: &[Token]) -> Result<(&[u8], &[Token]), Miss>
+    ensures { FindsBytes result (digits_at tokens.now) }
+{
+    match tokens {
+        [Token::Number(digits), behind @ ..] => Ok((digits.as_slice(), behind)),
+        [] | [Token::Word(_) | Token::Text(_) | Token::Symbol(_), ..] => Err(Miss::NotStatement),
     }
 }

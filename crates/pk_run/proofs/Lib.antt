@@ -1,3 +1,3 @@
-pub mod ServedIsPlain
+pub mod ServedIsAnswered
 pub mod Runs
 pub mod Shown

@@ -6,12 +6,14 @@ use Rattle.pk_values.specs.declared.placed.Placed.{Placed}
 use Rattle.pk_values.specs.declared.value.Value.{Value}
 use Rattle.pk_values.specs.declared.refusal.Refusal.{Refusal}
 use Rattle.pk_values.specs.declared.refusal.Refusal.TheVariants.{NoTable}
-use Rattle.pk_parse.specs.declared.statement.Literal.{Literal}
 use Rattle.pk_report.specs.declared.reply.Reply.{Reply}
 use Rattle.pk_report.specs.declared.reply.Reply.TheVariants.{Selected, Refused}
 use Rattle.pk_engine.specs.Base.{Base, Table, is_named, table_named, with_rows, put_rows}
 use Rattle.pk_engine.specs.State.{State, current, with_commit, Changed}
-use Rattle.pk_engine.specs.Answer.{table_of, selected_of, no_table, unless_found, first_some, refused_or, answer, answer_select, stored_value, placed_from}
+use Rattle.pk_engine.specs.Refusing.{first_some, refused_or, table_of}
+use Rattle.pk_engine.specs.Insert.{placed_from}
+use Rattle.pk_engine.specs.Select.{selected_of, no_table, unless_found}
+use Rattle.pk_engine.specs.Answer.{refusals, done, answer}
 use Rattle.pk_engine.proofs.StandsLemmas.{after_more}
 use Rattle.pk_run.specs.Laws.{shown}
 
@@ -22,7 +24,7 @@ shown_of name (Some t) = selected_of (Some t)
 shown_of name None = Refused (NoTable name)
 
 pub shown_is : (st : State) (name : List ℕ) → shown st name ≡ shown_of name (table_of st name)
-unfolding answer answer_select no_table
+unfolding answer refusals done no_table
 shown_is st name =
     elim (table_of st name) as (λ o. (refused_or st (first_some (unless_found name o ∷ [])) (record { reply = selected_of o; next = st })).reply ≡ shown_of name o) [
       | None ↦ refl
@@ -75,9 +77,9 @@ table_after st name other rows = ap (λ (b : Base). table_named other b.tables) 
 
 -- ---- the rows of a table with new ones at its end
 
-values_placed : (id : ℕ) (rows : List (List Literal)) → map (λ p. p.row) (placed_from id rows) ≡ map (map stored_value) rows
+values_placed : (id : ℕ) (rows : List (List Value)) → map (λ p. p.row) (placed_from id rows) ≡ rows
 values_placed id [] = refl
-values_placed id (row ∷ rows) = ap (λ (rest : List (List Value)). map stored_value row ∷ rest) (values_placed (id + 1) rows)
+values_placed id (row ∷ rows) = ap (λ (rest : List (List Value)). row ∷ rest) (values_placed (id + 1) rows)
 
 header_of : Reply → List (List ℕ)
 header_of (Selected header rows) = header
@@ -91,15 +93,15 @@ refusal_shows_nothing : (r : Refusal) (header : List (List ℕ)) (rows : List (L
 refusal_shows_nothing r header rows e = cc
 
 -- where a table is shown, it is shown with the new rows behind its own
-pub shown_more : (name : List ℕ) (t : Option Table) (id : ℕ) (new : List (List Literal)) (header : List (List ℕ)) (rows : List (List Value))
+pub shown_more : (name : List ℕ) (t : Option Table) (id : ℕ) (new : List (List Value)) (header : List (List ℕ)) (rows : List (List Value))
     → shown_of name t ≡ Selected header rows
-    → shown_of name (option_map (with_rows (placed_from id new)) t) ≡ Selected header (rows ++ map (map stored_value) new)
+    → shown_of name (option_map (with_rows (placed_from id new)) t) ≡ Selected header (rows ++ new)
 unfolding header_of rows_of
 shown_more name None id new header rows e = absurd (refusal_shows_nothing (NoTable name) header rows e)
 shown_more name (Some t) id new header rows e =
     let header_is : map (λ c. c.name) t.columns ≡ header = ap header_of e in
     let rows_are : map (λ p. p.row) t.rows ≡ rows = ap rows_of e in
-    let all : map (λ p. p.row) (t.rows ++ placed_from id new) ≡ rows ++ map (map stored_value) new =
+    let all : map (λ p. p.row) (t.rows ++ placed_from id new) ≡ rows ++ new =
     map-append (λ p. p.row) t.rows (placed_from id new) ∙ ap (λ (front : List (List Value)). front ++ map (λ p. p.row) (placed_from id new)) rows_are
     ∙ ap (λ (behind : List (List Value)). rows ++ behind) (values_placed id new) in
     ap (λ (h : List (List ℕ)). Selected h (map (λ p. p.row) (t.rows ++ placed_from id new))) header_is ∙ ap (Selected header) all

@@ -3,31 +3,36 @@ use Rattle.pk_values.specs.Name.{name_of}
 use Rattle.pk_values.specs.declared.refusal.Refusal.TheVariants.{ValueCount}
 use Rattle.pk_values.specs.declared.row.TheConstants.{MOST_COLUMNS}
 use Rattle.pk_values.specs.declared.value.Value.TheVariants.{Null}
-use Rattle.pk_lex.specs.declared.token.Token.TheVariants.{Word, Number, Symbol as Sign}
-use Rattle.pk_lex.specs.declared.token.Symbol.TheVariants.{AtMost, UnequalAngle, Minus}
+use Rattle.pk_lex.specs.declared.token.Token.TheVariants.{Word, Number}
+use Rattle.pk_lex.specs.declared.token.Symbol.TheVariants.{AtMost, UnequalAngle}
 use Rattle.pk_lex.specs.declared.piece.Body.TheVariants.{Tokens, BadCharacter}
 use Rattle.pk_lex.specs.Symbols.{symbol_at}
 use Rattle.pk_lex.specs.Pieces.{pieces}
 use Rattle.pk_parse.specs.Words.{reserved}
-use Rattle.pk_parse.specs.Tokens.{number_of}
+use Rattle.pk_parse.specs.declared.declaration.TableDecl.{TableDecl}
+use Rattle.pk_parse.specs.Declarations.{names_are_short}
+use Rattle.pk_parse.specs.Literals.{number_of}
 use Rattle.pk_report.specs.declared.reply.Reply.TheVariants.{Inserted, Selected, Refused}
 use Rattle.pk_report.specs.Text.{text}
 use Rattle.pk_engine.specs.Base.{empty_base}
 use Rattle.pk_run.specs.declared.scripts.TheConstants.{MOST_SCRIPT}
 use Rattle.pk_run.specs.declared.status.Status.TheVariants.{Done, Refused as SomeRefused, Usage, ScriptFault, ReplyFault, OutOfMemory, LongScript}
 use Rattle.pk_run.specs.Status.{code_of}
-use Rattle.pk_run.specs.Served.{is_short}
 use Rattle.pk_run.specs.Words.{is_plain_form}
 use Rattle.pk_run.specs.Told.{told, is_refused}
 use Rattle.pk_run.specs.Example.{lines}
+
+-- a table of this name, without a column
+abbrev pub called : List ℕ → TableDecl
+called name = record { table = name; columns = []; keys = [] }
 
 -- the limits, in digits
 pub record LimitsInDigits : Type 0 where
   pub script : MOST_SCRIPT ≡ 4194304
   pub columns : MOST_COLUMNS ≡ 32
   pub words : length reserved ≡ 52
-  pub name : is_short (codes "a23456789012345678901234567890") ≡ true
-  pub long_name : is_short (codes "a234567890123456789012345678901") ≡ false
+  pub name : names_are_short (called (codes "a23456789012345678901234567890")) ≡ true
+  pub long_name : names_are_short (called (codes "a234567890123456789012345678901")) ≡ false
 
 -- the exit status of each way in which a run ends
 pub record StatusesInDigits : Type 0 where
@@ -55,7 +60,7 @@ pub record SymbolsAtTheirEdges : Type 0 where
 pub record PiecesAtTheirEdges : Type 0 where
   pub none : pieces (codes " ;;; ") ≡ []
   pub last : pieces (codes "a") ≡ record { line = 1; body = Tokens (Word (codes "a") ∷ []) } ∷ []
-  pub run_on : pieces (codes "1AND--") ≡ record { line = 1; body = Tokens (Number (codes "1") ∷ Word (codes "and") ∷ Sign Minus ∷ Sign Minus ∷ []) } ∷ []
+  pub run_on : pieces (codes "1AND--") ≡ record { line = 1; body = Tokens (Number (codes "1") ∷ Word (codes "and") ∷ []) } ∷ []
   pub faults : pieces (10 ∷ codes "a" ++ 10 ∷ codes "$" ++ 10 ∷ codes "?") ≡ record { line = 2; body = BadCharacter 3 } ∷ []
 
 -- line feeds end lines, and carriage returns don't
@@ -104,11 +109,13 @@ pub record RunsAtTheirEdges : Type 0 where
   pub exists : Tells (codes "CREATE TABLE t (a INTEGER); CREATE TABLE T (b INTEGER); SELECT * FROM t") (codes "created t" ∷ codes "refused: table t exists" ∷ codes "a" ∷ codes "rows 0" ∷ [])
   pub counted : Tells (codes "CREATE TABLE t (a INTEGER, b INTEGER); INSERT INTO t VALUES (1); INSERT INTO t VALUES (1, 2, 3)") (codes "created t" ∷ codes "refused: 1 values for 2 columns" ∷ codes "refused: 3 values for 2 columns" ∷ [])
   pub zero : Tells (codes "CREATE TABLE t (a INTEGER); INSERT INTO t VALUES (0); SELECT * FROM t") (codes "created t" ∷ codes "inserted 1" ∷ codes "a" ∷ codes "0" ∷ codes "rows 1" ∷ [])
-  pub fault_on_a_later_line : Tells (codes "SELECT *" ++ 10 ∷ codes "FROM $") (codes "refused: not a statement on line 1" ∷ [])
+  pub fault_on_a_later_line : Tells (codes "SELECT *" ++ 10 ∷ codes "FROM $") (codes "refused: bad character on line 2" ∷ [])
   pub unserved_first : Tells (codes "INSERT INTO u VALUES (1), (2)") (codes "refused: not a statement on line 1" ∷ [])
-  pub twice_named : Tells (codes "CREATE TABLE t (a INTEGER, b INTEGER, a INTEGER)") (codes "refused: not a statement on line 1" ∷ [])
-  pub past_64_bits : Tells (codes "CREATE TABLE t (a INTEGER); INSERT INTO t VALUES (9223372036854775808); INSERT INTO t VALUES (9223372036854775807); SELECT * FROM t") (codes "created t" ∷ codes "refused: not a statement on line 1" ∷ codes "inserted 1" ∷ codes "a" ∷ codes "9223372036854775807" ∷ codes "rows 1" ∷ [])
+  pub twice_named : Tells (codes "CREATE TABLE t (a INTEGER, b INTEGER, a INTEGER)") (codes "refused: column a twice" ∷ [])
+  pub past_64_bits : Tells (codes "CREATE TABLE t (a INTEGER); INSERT INTO t VALUES (9223372036854775808); INSERT INTO t VALUES (9223372036854775807); SELECT * FROM t") (codes "created t" ∷ codes "refused: number outside 64 bits" ∷ codes "inserted 1" ∷ codes "a" ∷ codes "9223372036854775807" ∷ codes "rows 1" ∷ [])
   pub ordered : Tells (codes "CREATE TABLE b (x INTEGER); CREATE TABLE a (y INTEGER); INSERT INTO b VALUES (1); INSERT INTO b VALUES (2); SELECT * FROM b; SELECT * FROM a") (codes "created b" ∷ codes "created a" ∷ codes "inserted 1" ∷ codes "inserted 1" ∷ codes "x" ∷ codes "1" ∷ codes "2" ∷ codes "rows 2" ∷ codes "y" ∷ codes "rows 0" ∷ [])
+  pub unclosed : Tells (codes "INSERT INTO t VALUES ('abc") (codes "refused: unclosed text on line 1" ∷ [])
+  pub listed : Tells (codes "CREATE TABLE t (a INT, s VARCHAR(3)); INSERT INTO t (s) VALUES ('a''b'); INSERT INTO t (s) VALUES ('abcd'); SELECT * FROM t") (codes "created t" ∷ codes "inserted 1" ∷ codes "refused: text of 4 bytes for column s, at most 3" ∷ codes "a|s" ∷ codes "NULL|'a''b'" ∷ codes "rows 1" ∷ [])
   pub unfinished : Tells (codes "SELECT * FROM t" ++ 10 ∷ codes ";" ++ 10 ∷ codes "SELECT *") (codes "refused: no table t" ∷ codes "refused: not a statement on line 3" ∷ [])
 
 -- the definitions at their edges

@@ -1,27 +1,37 @@
 use Rattle.std.specs.Prelude.{◌≡◌, ℕ, Bool, true, false, List, [], ◌∷◌, ◌++◌, Result, Ok, Err, if◌then◌else◌}
 use Rattle.std.specs.List.{flat_map, list_any}
 use Rattle.pk_values.specs.declared.refusal.Refusal.{Refusal}
-use Rattle.pk_values.specs.declared.refusal.Refusal.TheVariants.{NotStatement}
+use Rattle.pk_values.specs.declared.refusal.Refusal.TheVariants.{BadCharacter, UnclosedText, NotStatement}
 use Rattle.pk_lex.specs.declared.piece.Piece.{Piece}
 use Rattle.pk_lex.specs.Pieces.{pieces}
 use Rattle.pk_parse.specs.declared.statement.Statement.{Statement}
+use Rattle.pk_parse.specs.declared.parsing.ParseErr.{ParseErr}
+use Rattle.pk_parse.specs.declared.parsing.ParseErr.TheVariants as faults
 use Rattle.pk_parse.specs.Parsed.{parsed}
 use Rattle.pk_report.specs.declared.reply.Reply.{Reply}
 use Rattle.pk_report.specs.declared.reply.Reply.TheVariants.{Refused}
 use Rattle.pk_report.specs.Text.{text}
 use Rattle.pk_engine.specs.Base.{Base}
 use Rattle.pk_engine.specs.State.{State, started}
-use Rattle.pk_engine.specs.Answer.{Step, answer}
+use Rattle.pk_engine.specs.Refusing.{Step}
+use Rattle.pk_engine.specs.Answer.{answer}
 use Rattle.pk_run.specs.Served.{is_served}
 
 -- a refusal, and the state as it was
 abbrev pub refused : State → Refusal → Step
 refused st r = record { reply = Refused r; next = st }
 
+-- why a piece on this line is no statement; what is read never wants for memory
+abbrev pub refusal_of : ℕ → ParseErr → Refusal
+refusal_of line (faults.BadCharacter fault) = BadCharacter fault
+refusal_of line (faults.UnclosedText fault) = UnclosedText fault
+refusal_of line (faults.NotStatement at_line) = NotStatement at_line
+refusal_of line faults.Memory = NotStatement line
+
 -- the answer to what a piece on this line says
-abbrev pub answer_to : State → ℕ → Result Statement Refusal → Step
+abbrev pub answer_to : State → ℕ → Result Statement ParseErr → Step
 answer_to st line (Ok s) = if is_served s then answer st s else refused st (NotStatement line)
-answer_to st line (Err r) = refused st r
+answer_to st line (Err e) = refused st (refusal_of line e)
 
 -- the answer to a piece
 unfoldable pub step : State → Piece → Step

@@ -93,7 +93,7 @@ fn answer_and_tell<W: Station>(
 }
 
 // The reply to a piece. After an `Err` nothing is claimed of the engine.
-#[tactic(auto, using(crate::proofs::ServedIsPlain::plain_when_served), unfolding(crate::specs::Told::step))]
+#[tactic(auto, using(crate::proofs::ServedIsAnswered::answered_when_served), unfolding(crate::specs::Told::step))]
 fn answer_piece(alloc: Global, engine: &mut Engine, piece: &Piece) -> Result<Reply, Memory>
     requires { (st : State) × StandsFor engine.old st }
     ensures reply { IfOk result (λ r. (st : State) → StandsFor engine.old st → r ≡ (step st piece.now).reply) }
@@ -107,6 +107,8 @@ fn answer_piece(alloc: Global, engine: &mut Engine, piece: &Piece) -> Result<Rep
                 Ok(not_statement(piece.line))
             }
         }
+        Err(ParseErr::BadCharacter { line }) => Ok(Reply::Refused(Refusal::BadCharacter { line })),
+        Err(ParseErr::UnclosedText { line }) => Ok(Reply::Refused(Refusal::UnclosedText { line })),
         Err(ParseErr::NotStatement { line }) => Ok(not_statement(line)),
         Err(ParseErr::Memory) => Err(Memory),
     }

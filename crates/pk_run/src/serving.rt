@@ -1,61 +1,92 @@
-ghost use Rattle.std.specs.Prelude.{◌≡◌};
+ghost use Rattle.std.specs.Prelude.{◌≡◌, length, nat_le};
 ghost use Rattle.std.specs.List.{list_all};
-ghost use Rattle.pk_run.specs.Served.{is_served, is_short, has_column, all_differ, are_served_columns};
+ghost use Rattle.pk_parse.specs.Declarations.{names_are_short, names_of};
+ghost use Rattle.pk_engine.specs.Answer.{is_answered_table, asks_all, is_all};
+ghost use Rattle.pk_run.specs.Served.{is_served, admits_null};
 
-use pk_parse::{ColumnDecl, Statement};
-use pk_values::MOST_COLUMNS;
+use pk_parse::{ColumnDecl, Select, Statement, TableDecl, What};
+use pk_values::Name;
 
 // The longest name that a table or a column may have.
 const MOST_NAME: usize = 30;
 
-/// Whether the engine answers the statement yet: a CREATE TABLE of at most 32 columns with different
-/// names, where no name has more than 30 bytes; an INSERT of one tuple; a SELECT.
+/// Whether the statement is answered yet: a CREATE TABLE of at most 32 columns that may all hold null, with
+/// names of at most 30 bytes and without keys; an INSERT of one tuple; a SELECT of all columns and all
+/// rows.
 #[tactic(auto, unfolding(crate::specs::Served::is_served))]
 pub fn served(statement: &Statement) -> bool
     ensures { result ≡ is_served statement.now }
 {
     match statement {
         Statement::Create(declared) => {
-            is_short(declared.table.as_slice()) && are_served(declared.columns.as_slice())
+            is_answered_table(declared) && names_are_short(declared) && admits_null(declared)
         }
         Statement::Insert(insert) => insert.rows.as_slice().len() == 1,
-        Statement::Select(_) => true,
+        Statement::Select(select) => is_all(select),
+        Statement::Drop { .. }
+        | Statement::Update(_)
+        | Statement::Delete(_)
+        | Statement::Begin
+        | Statement::Commit
+        | Statement::Rollback
+        | Statement::Session { .. }
+        | Statement::Show { .. }
+        | Statement::Implies { .. }
+        | Statement::Cover { .. }
+        | Statement::Examples { .. }
+        | Statement::Discover { .. }
+        | Statement::Checkpoint => false,
     }
 }
 
-fn is_short(name: &[u8]) -> bool
-    ensures { result ≡ is_short name.now }
+fn is_answered_table(declared: &TableDecl) -> bool
+    ensures { result ≡ is_answered_table declared.now }
 {
-    name.len() <= MOST_NAME
+    declared.columns.as_slice().len() <= 32 && declared.keys.as_slice().split_first().is_none()
 }
 
-fn are_served(columns: &[ColumnDecl]) -> bool
-    ensures { result ≡ are_served_columns columns.now }
+fn names_are_short(declared: &TableDecl) -> bool
+    ensures { result ≡ names_are_short declared.now }
 {
-    columns.len() <= MOST_COLUMNS && are_short(columns) && all_differ(columns)
+    is_short(&declared.table) && columns_are_short(declared.columns.as_slice())
 }
 
-fn are_short(columns: &[ColumnDecl]) -> bool
-    ensures { result ≡ list_all (λ c. is_short c.name) columns.now }
+fn columns_are_short(columns: &[ColumnDecl]) -> bool
+    ensures { result ≡ list_all (λ name. nat_le (length name) 30) (names_of columns.now) }
 {
-    columns.iter().all(|c| is_short(c.name.as_slice()))
-}
-
-fn all_differ(columns: &[ColumnDecl]) -> bool
-    ensures { result ≡ all_differ columns.now }
-{
-    let mut rest = columns;
-    while let Some((first, behind)) = rest.split_first() {
-        if has_column(behind, first.name.as_slice()) {
+    for column in columns {
+        if !is_short(&column.name) {
             return false;
         }
-        rest = behind;
     }
     true
 }
 
-fn has_column(columns: &[ColumnDecl], name: &[u8]) -> bool
-    ensures { result ≡ has_column columns.now name.now }
+fn is_short(name: &Name) -> bool
+    ensures { result ≡ nat_le (length name.now) 30 }
 {
-    columns.iter().any(|c| c.name.as_slice() == name)
+    name.as_slice().len() <= MOST_NAME
+}
+
+fn admits_null(declared: &TableDecl) -> bool
+    ensures { result ≡ admits_null declared.now }
+{
+    declared.columns.as_slice().iter().all(|c| !c.not_null)
+}
+
+fn is_all(select: &Select) -> bool
+    ensures { result ≡ is_all select.now }
+{
+    select.cond.is_none()
+        && asks_all(&select.what)
+        && select.order.as_slice().split_first().is_none()
+}
+
+fn asks_all(what: &What) -> bool
+    ensures { result ≡ asks_all what.now }
+{
+    match what {
+        What::All => true,
+        What::Columns(_) | What::Count => false,
+    }
 }

@@ -34,7 +34,7 @@ fn run(
 
 #[test]
 fn scripts_are_answered(rt: HostRuntime) -> Result<(), Fail> {
-    let cases: [(&[u8], Status, &[u8]); 26] = [
+    let cases: [(&[u8], Status, &[u8]); 34] = [
         (b"", Status::Done, b""),
         (b" \t\r\n ;;\n; ", Status::Done, b""),
         (FIRST, Status::Done, FIRST_TOLD),
@@ -73,17 +73,17 @@ fn scripts_are_answered(rt: HostRuntime) -> Result<(), Fail> {
         (
             b"\n\nfrom\n;\n  $;\n;SELECT *\nFROM t",
             Status::Refused,
-            b"refused: not a statement on line 3\nrefused: not a statement on line 5\nrefused: no table t\n",
+            b"refused: not a statement on line 3\nrefused: bad character on line 5\nrefused: no table t\n",
         ),
         (
-            b"CREATE TABLE t (a INT);",
-            Status::Refused,
-            b"refused: not a statement on line 1\n",
+            b"CREATE TABLE t (a INT, b BIGINT, c TEXT, d VARCHAR(3));",
+            Status::Done,
+            b"created t\n",
         ),
         (
             b"CREATE TABLE t (a INTEGER, a INTEGER);",
             Status::Refused,
-            b"refused: not a statement on line 1\n",
+            b"refused: column a twice\n",
         ),
         (
             b"CREATE TABLE select (a INTEGER);",
@@ -101,9 +101,9 @@ fn scripts_are_answered(rt: HostRuntime) -> Result<(), Fail> {
             b"created t\nrefused: not a statement on line 1\n",
         ),
         (
-            b"CREATE TABLE t (a INTEGER); INSERT INTO t VALUES (-1);",
-            Status::Refused,
-            b"created t\nrefused: not a statement on line 1\n",
+            b"CREATE TABLE t (a INTEGER); INSERT INTO t VALUES (-9223372036854775808); SELECT * FROM t",
+            Status::Done,
+            b"created t\ninserted 1\na\n-9223372036854775808\nrows 1\n",
         ),
         (
             b"CREATE TABLE t (a INTEGER); INSERT INTO t VALUES (9223372036854775807); SELECT * FROM t",
@@ -113,7 +113,7 @@ fn scripts_are_answered(rt: HostRuntime) -> Result<(), Fail> {
         (
             b"CREATE TABLE t (a INTEGER); INSERT INTO t VALUES (9223372036854775808);",
             Status::Refused,
-            b"created t\nrefused: not a statement on line 1\n",
+            b"created t\nrefused: number outside 64 bits\n",
         ),
         (
             b"CREATE TABLE a23456789012345678901234567890 (a INTEGER);",
@@ -135,11 +135,55 @@ fn scripts_are_answered(rt: HostRuntime) -> Result<(), Fail> {
             Status::Done,
             b"created t\ninserted 1\na\n0\nrows 1\n",
         ),
-        // A carriage return ends no line, and a fault is told with the line on which its piece begins.
+        // A carriage return ends no line, and a fault is told with its own line.
         (
             b"SELECT * FROM t\r;\r\nbegin a\r\r;\nSELECT\n*\n$",
             Status::Refused,
-            b"refused: no table t\nrefused: not a statement on line 2\nrefused: not a statement on line 3\n",
+            b"refused: no table t\nrefused: not a statement on line 2\nrefused: bad character on line 5\n",
+        ),
+        (
+            b"INSERT INTO t VALUES ('abc",
+            Status::Refused,
+            b"refused: unclosed text on line 1\n",
+        ),
+        (
+            b"CREATE TABLE t (a INT); -- made\nCREATE TABLE t (a INT); SELECT * FROM u",
+            Status::Refused,
+            b"created t\nrefused: table t exists\nrefused: no table u\n",
+        ),
+        (
+            b"CREATE TABLE t (a INT, s VARCHAR(3)); INSERT INTO t (s) VALUES ('a''b');\
+              INSERT INTO t VALUES (NULL, ''); SELECT * FROM t",
+            Status::Done,
+            b"created t\ninserted 1\ninserted 1\na|s\nNULL|'a''b'\nNULL|''\nrows 2\n",
+        ),
+        (
+            b"CREATE TABLE v (s VARCHAR(3)); INSERT INTO v VALUES ('abcd'); INSERT INTO v VALUES (1);\
+              INSERT INTO v (t) VALUES (1); INSERT INTO v (s, s) VALUES (1, 2); SELECT * FROM v",
+            Status::Refused,
+            b"created v\nrefused: text of 4 bytes for column s, at most 3\nrefused: wrong kind for column s\nrefused: no column t in v\nrefused: column s twice\ns\nrows 0\n",
+        ),
+        // Read, and not answered yet.
+        (
+            b"CREATE TABLE t (a INT NOT NULL);",
+            Status::Refused,
+            b"refused: not a statement on line 1\n",
+        ),
+        (
+            b"CREATE TABLE t (a INT, CERTAIN KEY (a));",
+            Status::Refused,
+            b"refused: not a statement on line 1\n",
+        ),
+        (
+            b"CREATE TABLE t (a INT); SELECT a FROM t; SELECT * FROM t WHERE a = 1; BEGIN;",
+            Status::Refused,
+            b"created t\nrefused: not a statement on line 1\nrefused: not a statement on line 1\nrefused: not a statement on line 1\n",
+        ),
+        // A text that isn't UTF-8, and good statements behind it.
+        (
+            b"SELECT '\xff' \n; CREATE TABLE t (a INT)",
+            Status::Refused,
+            b"refused: bad character on line 1\ncreated t\n",
         ),
         (
             b"SELECT * FROM t; CREATE TABLE t (a INTEGER);",
@@ -173,6 +217,40 @@ fn wide(alloc: Global, columns: u32) -> Result<Vec<u8>, Fail> {
     }
     script.extend_from_slice(b")")?;
     Ok(script)
+}
+
+// INSERT of fifteen texts of 255 bytes and one of so many.
+fn long(alloc: Global, last: usize) -> Result<Vec<u8>, Fail> {
+    let mut script = b"CREATE TABLE t (c0 TEXT".to_vec(alloc)?;
+    for c in 1..16 {
+        script.extend_from_slice(format!(in alloc; ", c{c} TEXT")?.as_bytes())?;
+    }
+    script.extend_from_slice(b"); INSERT INTO t VALUES (")?;
+    for _ in 0..15 {
+        script.push(b'\'')?;
+        repeat(&mut script, b"x", 255)?;
+        script.extend_from_slice(b"', ")?;
+    }
+    script.push(b'\'')?;
+    repeat(&mut script, b"x", last)?;
+    script.extend_from_slice(b"')")?;
+    Ok(script)
+}
+
+#[test]
+fn a_row_has_at_most_4000_bytes(rt: HostRuntime) -> Result<(), Fail> {
+    let alloc = rt.alloc();
+    for (last, told) in [
+        (143, b"created t\ninserted 1\n".as_slice()),
+        (
+            144,
+            b"created t\nrefused: row of 4001 bytes, at most 4000\n",
+        ),
+    ] {
+        let got = run(alloc, &long(alloc, last)?, 4096, &[], &[])?;
+        assert_eq!(rt; got.1.as_slice(), told);
+    }
+    Ok(())
 }
 
 #[test]

@@ -5,18 +5,18 @@ ghost use Rattle.std.specs.Prelude.{◌≡◌, IfOk};
 use crate::engine::Engine;
 use pk_parse::Select;
 use pk_report::Reply;
-use pk_values::{Items, Memory, Refusal};
+use pk_values::{Items, Memory, Name, Refusal};
 
 impl Engine {
     ghost use Rattle.pk_engine.specs.State.{State};
-    ghost use Rattle.pk_engine.specs.Answer.{answer_select, select_refusals, selected, first_some};
-    ghost use Rattle.pk_engine.specs.Stands.{StandsFor};
+    ghost use Rattle.pk_engine.specs.Refusing.{decided, first_some};
+    ghost use Rattle.pk_engine.specs.Select.{select_refusals, selected, no_table};
+    ghost use Rattle.pk_engine.specs.Stands.{StandsFor, Replies, Moves};
 
     // The answer to SELECT.
-    #[tactic(auto, unfolding(crate::specs::Answer::answer_select))]
     pub(super) fn select(&self, select: &Select) -> Result<Reply, Memory>
-        ensures reply { IfOk result (λ r. (st : State) → StandsFor self.now st → r ≡ (answer_select st select.now).reply) }
-        ensures next { (st : State) → StandsFor self.now st → StandsFor self.now (answer_select st select.now).next }
+        ensures reply { IfOk result (λ r. Replies (λ st. decided st (select_refusals st select.now) (selected st select.now)) self.now r) }
+        ensures next { Moves (λ st. decided st (select_refusals st select.now) (selected st select.now)) self.now self.now }
     {
         match self.select_refusal(select)? {
             Some(refusal) => Ok(Reply::Refused(refusal)),
@@ -31,9 +31,22 @@ impl Engine {
         self.no_table(&select.table)
     }
 
+    // The base has no table of this name.
+    #[tactic(auto, unfolding(crate::specs::Select::no_table))]
+    fn no_table(&self, name: &Name) -> Result<Option<Refusal>, Memory>
+        ensures { IfOk result (λ r. (st : State) → StandsFor self.now st → r ≡ no_table st name.now) }
+    {
+        match self.table(name) {
+            Some(_) => Ok(None),
+            None => Ok(Some(Refusal::NoTable {
+                table: name.copy()?,
+            })),
+        }
+    }
+
     // The names of the columns and all rows. Of no table there are none of either.
     fn selected(&self, select: &Select) -> Result<Reply, Memory>
-        ensures { IfOk result (λ r. (st : State) → StandsFor self.now st → r ≡ (selected st select.now).reply) }
+        ensures { IfOk result (λ r. Replies (λ st. selected st select.now) self.now r) }
     {
         match self.table(&select.table) {
             Some(table) => Ok(Reply::Selected {

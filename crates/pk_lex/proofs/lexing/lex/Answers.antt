@@ -1,10 +1,12 @@
-use Rattle.std.proofs.Common.{◌+◌, ap, sym, ◌∙◌, arith, take, drop}
+use Rattle.std.proofs.Common.{◌+◌, ap, sym, ◌∙◌, arith, take, drop, ◌≡◌, refl, ℕ, List, [], ◌∷◌, true, length}
 use Rattle.std.proofs.lemmas.List.Sums.{count_by-le-length}
+use Rattle.std.proofs.lemmas.Bool.{eqb-true}
 use Rattle.std.specs.Prelude.{◌==◌}
 use Rattle.pk_lex.specs.Lexemes.{lexemes, lexemes_from, line_feeds}
 use Rattle.pk_lex.specs.Pieces.{pieces}
 use Rattle.pk_lex.specs.Building.{pieces_with}
 use Rattle.pk_lex.proofs.LexemeLemmas.{front_fits, lexemes_from-front}
+use Rattle.pk_lex.proofs.LexedLemmas.{lexed_if}
 use Rattle.pk_lex.proofs.lexing.lex.Goals as goal
 
 pub loop-rest-init : goal.loop-rest-init
@@ -30,3 +32,14 @@ loop-rest-preserved c =
           (c.in_ok-add.ensures (lexemes_from (c.loop-rest.line + line_feeds (take front.width c.loop-rest.rest.now)) 0 (drop front.width c.loop-rest.rest.now))
           ∙ ap (pieces_with c.loop-rest.builder) (sym cut) ∙ c.loop-rest.invariant.same_pieces);
     }
+
+none_left : (line : ℕ) (rest : List ℕ) → (length rest == 0) ≡ true → lexemes_from line 0 rest ≡ []
+none_left line [] h = refl
+none_left line (b ∷ rest) h =
+    let none = eqb-true (length (b ∷ rest)) 0 h in absurd (omega (arith, none))
+
+pub returns-clause-lexed : goal.returns-clause-lexed
+returns-clause-lexed c =
+    let over = none_left c.loop-rest.line c.loop-rest.rest.now (sym c.loop-rest-test.ensures) in
+    lexed_if c.finish.result (λ v. v.items) c.args.script.now (pieces_with c.loop-rest.builder [])
+    (ap (pieces_with c.loop-rest.builder) (sym over) ∙ c.loop-rest.invariant.same_pieces) c.finish.ensures

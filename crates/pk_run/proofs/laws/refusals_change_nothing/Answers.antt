@@ -8,7 +8,10 @@ use Rattle.pk_parse.specs.declared.statement.Statement.TheVariants.{Create, Inse
 use Rattle.pk_parse.specs.Parsed.{parsed}
 use Rattle.pk_engine.specs.Base.{Table}
 use Rattle.pk_engine.specs.State.{State}
-use Rattle.pk_engine.specs.Answer.{Step, first_some, create_refusals, created, insert_refusals, inserted, select_refusals, selected, refused_or, table_of, selected_of, answer_create, answer_insert, answer_select, answer}
+use Rattle.pk_parse.specs.declared.parsing.ParseErr.{ParseErr}
+use Rattle.pk_engine.specs.Refusing.{Step, first_some, refused_or, table_of}
+use Rattle.pk_engine.specs.Select.{selected_of}
+use Rattle.pk_engine.specs.Answer.{refusals, done, answer}
 use Rattle.pk_run.specs.Served.{is_served}
 use Rattle.pk_run.specs.Told.{step, refused, answer_to, is_refusal}
 use Rattle.pk_run.proofs.laws.refusals_change_nothing.Goals as goal
@@ -22,11 +25,16 @@ no_refusal : (t : Option Table) → is_refusal (selected_of t) ≡ false
 no_refusal (Some t) = refl
 no_refusal None = refl
 
+done_is_no_refusal : (st : State) (s : Statement) → is_refusal (done st s).reply ≡ false
+unfolding done
+done_is_no_refusal st (Create d) = refl
+done_is_no_refusal st (InsertInto i) = refl
+done_is_no_refusal st (SelectFrom s) = no_refusal (table_of st s.table)
+done_is_no_refusal st _ = refl
+
 left_by_answer : (st : State) (s : Statement) → is_refusal (answer st s).reply ≡ true → (answer st s).next ≡ st
-unfolding answer answer_create answer_insert answer_select
-left_by_answer st (Create d) h = left_by st (first_some (create_refusals st d)) (created st d) refl h
-left_by_answer st (InsertInto i) h = left_by st (first_some (insert_refusals st i)) (inserted st i) refl h
-left_by_answer st (SelectFrom s) h = left_by st (first_some (select_refusals st s)) (selected st s) (no_refusal (table_of st s.table)) h
+unfolding answer
+left_by_answer st s h = left_by st (first_some (refusals st s)) (done st s) (done_is_no_refusal st s) h
 
 left_by_choice : (st : State) (line : ℕ) (s : Statement) (served : Bool)
     → is_refusal (if served then answer st s else refused st (NotStatement line)).reply ≡ true
@@ -34,9 +42,9 @@ left_by_choice : (st : State) (line : ℕ) (s : Statement) (served : Bool)
 left_by_choice st line s true h = left_by_answer st s h
 left_by_choice st line s false h = refl
 
-left_by_piece : (st : State) (line : ℕ) (read : Result Statement Refusal) → is_refusal (answer_to st line read).reply ≡ true → (answer_to st line read).next ≡ st
+left_by_piece : (st : State) (line : ℕ) (read : Result Statement ParseErr) → is_refusal (answer_to st line read).reply ≡ true → (answer_to st line read).next ≡ st
 left_by_piece st line (Ok s) h = left_by_choice st line s (is_served s) h
-left_by_piece st line (Err r) h = refl
+left_by_piece st line (Err e) h = refl
 
 pub returns : goal.returns
 unfolding step

@@ -1,0 +1,11 @@
+use Rattle.std.proofs.Common.{◌≡◌}
+use Rattle.std.specs.Prelude.{drop}
+use Rattle.pk_engine.specs.Insert.{tuple_fault}
+use Rattle.pk_engine.specs.Insertion.{fault_of}
+use Rattle.pk_engine.specs.Refusing.{first_by}
+use Rattle.pk_engine.proofs.faults.first_fault.Given as goal
+
+-- the tuples that are left decide
+abbrev pub invariant-loop-row : goal.invariant-loop-row
+invariant-loop-row l =
+    first_by (tuple_fault (fault_of l.check) l.listed) (drop l.row-index l.rows) ≡ first_by (tuple_fault (fault_of l.check) l.listed) l.rows

@@ -1,0 +1,28 @@
+ghost use Rattle.pk_parse.specs.Reading.{Finds};
+ghost use Rattle.pk_parse.specs.Where.{tested_at, where_at};
+
+use crate::condition::Test;
+use crate::conditions::condition_of;
+use crate::miss::Miss;
+use crate::tokens::after_word;
+use pk_lex::Token;
+use std::alloc::Global;
+
+// [ WHERE cond ]
+#[tactic(auto, unfolding(crate::specs::Where::where_at))]
+pub(crate) fn where_of(alloc: Global, tokens: &[Token]) -> Result<(Option<Test>, &[Token]), Miss>
+    ensures { Finds result (where_at tokens.now) }
+{
+    match after_word(b"where", tokens) {
+        Some(behind) => tested_of(alloc, behind),
+        None => Ok((None, tokens)),
+    }
+}
+
+// cond, behind WHERE
+fn tested_of(alloc: Global, tokens: &[Token]) -> Result<(Option<Test>, &[Token]), Miss>
+    ensures { Finds result (tested_at tokens.now) }
+{
+    let (test, behind) = condition_of(alloc, tokens)?;
+    Ok((Some(test), behind))
+}
