@@ -5,12 +5,14 @@ ghost use Rattle.pk_values.specs.Name.{begins_name, continues_name, is_name, fol
 use crate::memory::Memory;
 use std::alloc::Global;
 use std::marker::Model;
+use std::sync::ArcSlice;
 
 /// The name of a table, a column or a session: at least one byte, each a letter `a` to `z`, a digit
-/// or `_`, and no digit first. Contracts see it as the list of its bytes.
+/// or `_`, and no digit first. Contracts see it as the list of its bytes. Copies share their bytes, so
+/// that one costs the same however long the name is.
 #[derive(Debug, Drop)]
 pub struct Name {
-    bytes: Vec<u8>,
+    bytes: ArcSlice<u8>,
 }
 
 impl Model for Name {
@@ -19,10 +21,11 @@ impl Model for Name {
     ghost Value = { List ℕ };
 
     ghost use Rattle.pk_values.specs.Name.{is_name};
+    ghost use Rattle.std.specs.Arc.{arc_slice_items};
 
-    ghost view = { λ n. n.bytes.items };
+    ghost view = { λ n. arc_slice_items n.bytes };
 
-    ghost invariant = { λ n. IsTrue (is_name n.bytes.items) };
+    ghost invariant = { λ n. IsTrue (is_name (arc_slice_items n.bytes)) };
 }
 
 impl Name {
@@ -33,6 +36,7 @@ impl Name {
     {
         let bytes = folded(alloc, word)?;
         if is_name(&bytes) {
+            let bytes = ArcSlice::from_vec(bytes)?;
             Ok(Some(Name { bytes }))
         } else {
             Ok(None)
@@ -43,9 +47,8 @@ impl Name {
     pub fn copy(&self) -> Result<Name, Memory>
         ensures { IfOk result (λ name. name ≡ self.now) }
     {
-        Ok(Name {
-            bytes: Vec::from_slice(*self.bytes.allocator(), self.bytes.as_slice())?,
-        })
+        let bytes = self.bytes.clone()?;
+        Ok(Name { bytes })
     }
 
     /// The bytes of the name.
