@@ -7,6 +7,7 @@
 #![tactic(auto)]
 
 mod builder;
+mod digits;
 mod draft;
 mod laws;
 mod lexeme;
@@ -16,6 +17,7 @@ mod reading;
 mod text;
 mod token;
 
+pub use digits::Digits;
 pub use laws::{
     example_is_cut, lexemes_fill_the_script, lexemes_stand_on_their_lines, pieces_hold_the_tokens,
     pieces_tell_the_first_fault, quoted_bytes_are_texts, quotes_begin_texts, semicolons_cut,

@@ -7,10 +7,11 @@ ghost use Rattle.pk_lex.specs.Symbols.{spelling, symbol_at};
 ghost use Rattle.pk_lex.specs.Matching.{single_symbol, double_symbol};
 ghost use Rattle.pk_lex.specs.Lexemes.{is_blank, begins_comment, stays_on_line, begins_word, continues_word, symbol_lexeme, symbol_more, front_of};
 
+use crate::digits::Digits;
 use crate::lexeme::{Fault, Front, Lexeme};
 use crate::text::read_text;
 use crate::token::{Symbol, Token};
-use pk_values::{Bytes, Memory, Name};
+use pk_values::{Memory, Name};
 use std::alloc::Global;
 
 /// The longest lexeme at the front of the bytes.
@@ -59,9 +60,9 @@ fn read_number(alloc: Global, bytes: &[u8]) -> Result<Front, Memory>
     ensures { IfOk result (λ front. front_of bytes.now ≡ Some front) }
 {
     let width = number_width(bytes);
-    let digits = Vec::from_slice(alloc, &bytes[..width])?;
+    let digits = Digits::copy(alloc, &bytes[..width])?;
     Ok(Front {
-        lexeme: Lexeme::Known(Token::Number(Bytes::from_vec(digits))),
+        lexeme: Lexeme::Known(Token::Number(digits)),
         width,
     })
 }

@@ -49,7 +49,7 @@ fn shown(alloc: Global, script: &[u8]) -> Result<Vec<u8>, Fail> {
 #[test]
 fn scripts_are_cut(rt: HostRuntime) -> Result<(), Fail> {
     let alloc = rt.alloc();
-    let cases: [(&[u8], &[u8]); 22] = [
+    let cases: [(&[u8], &[u8]); 23] = [
         (b"", b""),
         (b" \t\r\n", b""),
         (b"a;\n$;", b"1: wa\n2: bad on 2\n"),
@@ -72,6 +72,10 @@ fn scripts_are_cut(rt: HostRuntime) -> Result<(), Fail> {
         (
             b"123456789012345678901234567890123456789012345678901234567890",
             b"1: n123456789012345678901234567890123456789012345678901234567890\n",
+        ),
+        (
+            b"1234567890123456 12345678901234567",
+            b"1: n1234567890123456 n12345678901234567\n",
         ),
         (b"a\r\r;b", b"1: wa\n1: wb\n"),
         (b"\n\n a \n\n b;\r\n c", b"3: wa wb\n6: wc\n"),
@@ -221,7 +225,8 @@ fn token_lengths(alloc: Global, pieces: &[Piece]) -> Result<Vec<usize>, Fail> {
             for token in tokens.as_slice() {
                 let length = match token {
                     Token::Word(name) => name.as_slice().len(),
-                    Token::Number(bytes) | Token::Text(bytes) => bytes.as_slice().len(),
+                    Token::Number(digits) => digits.as_slice().len(),
+                    Token::Text(bytes) => bytes.as_slice().len(),
                     Token::Symbol(_) => 0,
                 };
                 lengths.push(length)?;

@@ -1,3 +1,4 @@
+use crate::digits::Digits;
 use pk_values::{Bytes, Name};
 
 /// A token of a script.
@@ -6,7 +7,7 @@ pub enum Token {
     /// A letter or `_`, then letters, digits and `_`, with `A` to `Z` kept as `a` to `z`.
     Word(Name),
     /// One or more digits, as they stand in the script.
-    Number(Bytes),
+    Number(Digits),
     /// The bytes between two quotes, each `''` of the script being one `'`. They are UTF-8.
     Text(Bytes),
     /// One of the symbols below.

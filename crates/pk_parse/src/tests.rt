@@ -1,5 +1,5 @@
 use super::*;
-use pk_lex::{Body, Piece, Symbol, Token};
+use pk_lex::{Body, Digits, Piece, Symbol, Token};
 use pk_values::{Bytes, Items, Kind, Memory, Name, Sort};
 use std::alloc::Global;
 use std::test::Fail;
@@ -42,7 +42,7 @@ fn other_token(alloc: Global, text: &[u8]) -> Result<Token, Memory> {
     }
     match Name::read(alloc, text)? {
         Some(word) => Ok(Token::Word(word)),
-        None => Ok(Token::Number(Bytes::copy(alloc, text)?)),
+        None => Ok(Token::Number(Digits::copy(alloc, text)?)),
     }
 }
 

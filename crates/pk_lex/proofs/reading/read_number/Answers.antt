@@ -4,4 +4,4 @@ use Rattle.pk_lex.proofs.reading.read_number.Goals as goal
 
 pub returns : goal.returns
 returns c =
-    let e = front_of_number c.args.bytes.now c.requires in rw (e, c.from_vec.ensures, c.in_ok-digits.ensures.items, c.number_width-width.ensures) refl
+    let e = front_of_number c.args.bytes.now c.requires in rw (e, c.in_ok-digits.ensures, c.number_width-width.ensures) refl
