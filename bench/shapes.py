@@ -27,8 +27,10 @@ NOTS = b"SELECT * FROM t WHERE " + b"NOT " * 60 + b"a = 1;\n"
 # What stands before the repeated bytes, these, and what stands behind them.
 SHAPES = {
     "one-row INSERTs": (NUMBERS, b"INSERT INTO t VALUES (123, 4567, 8);\n", b""),
+    "column list": (NUMBERS, b"INSERT INTO t (a, b, c) VALUES (123, 4567, 8);\n", b""),
     "one INSERT": (NUMBERS + b"INSERT INTO t VALUES ", b"(123, 4567, 8), ", b"(1, 2, 3);\n"),
     "texts": (TEXTS, b"INSERT INTO t VALUES ('some text', 'it''s another');\n", b""),
+    "marks": (b"CREATE TABLE t (a INT", b" NOT NULL UNIQUE", b");\n"),
     "comments": (NUMBERS, b"-- a comment of one line, with ; and ' in it\n", b""),
     "parentheses": (NUMBERS, DEEP, b""),
     "NOTs": (NUMBERS, NOTS, b""),

@@ -81,12 +81,12 @@ impl Draft {
 }
 
 // Puts the token behind the others. Room begins at one, since a script may have very many pieces of
-// one token.
+// one token, and goes on at sixteen, which most pieces fit into.
 fn add(tokens: &mut Vec<Token>, token: Token) -> Result<(), Memory>
     ensures { OnOk result (tokens.new.items ≡ tokens.old.items ++ token ∷ []) }
 {
-    if tokens.is_empty() {
-        tokens.reserve_exact(1)?;
+    if tokens.len() < 2 {
+        tokens.reserve_exact(if tokens.is_empty() { 1 } else { 15 })?;
     }
     Ok(tokens.push(token)?)
 }

@@ -18,3 +18,4 @@ pub mod TextsGiven
 pub mod PlainGiven
 pub mod StatementGiven
 pub mod PrintReading
+mod WordLemmas

@@ -1,8 +1,20 @@
-use Rattle.std.specs.Prelude.{ℕ, List, [], ◌∷◌, length, Some}
+use Rattle.std.specs.Prelude.{ℕ, ◌+◌, ◌/◌, min, Bool, true, false, List, [], ◌∷◌, length, Some}
+use Rattle.std.specs.List.{prefix_len}
 use Rattle.std.proofs.Common.{suc, zero}
 use Rattle.pk_lex.specs.declared.token.Token.{Token}
+use Rattle.pk_lex.specs.declared.token.Token.TheVariants.{Symbol as Sign}
 use Rattle.pk_lex.specs.declared.token.Symbol.TheVariants.{Comma, LeftParen, RightParen}
 use Rattle.pk_parse.specs.Tokens.{Found, ◌>>=◌, behind_or, after_symbol, name_at}
+
+-- any token but a `)`
+abbrev pub stays_inside : Token → Bool
+stays_inside (Sign RightParen) = false
+stays_inside _ = true
+
+-- How many parts a list takes room for at first: as many as there are before the first `)` where each is one
+-- token, but at most 32. No public clause cites this.
+abbrev pub room_for_parts : List Token → ℕ
+room_for_parts tokens = 1 + min (prefix_len stays_inside tokens / 2) 31
 
 -- an item, and the items behind it
 abbrev pub item_then : {A : Type 0} → Found A → (List Token → Found (List A)) → Found (List A)

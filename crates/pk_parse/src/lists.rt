@@ -1,8 +1,9 @@
-ghost use Rattle.std.specs.Prelude.{List};
+ghost use Rattle.std.specs.Prelude.{◌≡◌, List};
+ghost use Rattle.std.specs.List.{prefix_len};
 ghost use Rattle.pk_lex.specs.declared.token.Token.{Token as Entry};
 ghost use Rattle.pk_parse.specs.Reading.{Finds};
 ghost use Rattle.pk_parse.specs.Tokens.{Found, name_at};
-ghost use Rattle.pk_parse.specs.Lists.{list_at, parens_at, names_at};
+ghost use Rattle.pk_parse.specs.Lists.{stays_inside, room_for_parts, list_at, parens_at, names_at};
 
 use crate::miss::Miss;
 use crate::tokens::{after_symbol, expect_symbol, name_of};
@@ -37,7 +38,7 @@ pub(crate) fn list_of<T: Part>(
     ensures { Finds result (list_at T.at tokens.now) }
 {
     let (first, mut rest) = T::read(alloc, tokens)?;
-    let mut parts = Vec::new(alloc);
+    let mut parts = Vec::with_capacity(alloc, room_for_parts(tokens))?;
     parts.push(first)?;
     for _ in 0..rest.len() {
         let Some(behind) = after_symbol(Symbol::Comma, rest) else {
@@ -48,6 +49,31 @@ pub(crate) fn list_of<T: Part>(
         rest = behind;
     }
     Ok((Items::from_vec(parts), rest))
+}
+
+// How many parts the list at the front of the tokens has where each is one token, but at most 32, since no
+// row has more.
+fn room_for_parts(tokens: &[Token]) -> usize
+    ensures { result ≡ room_for_parts tokens.now }
+{
+    1 + (width_inside(tokens) / 2).min(31)
+}
+
+// How many tokens stand before the first `)`.
+fn width_inside(tokens: &[Token]) -> usize
+    ensures { result ≡ prefix_len stays_inside tokens.now }
+{
+    tokens
+        .iter()
+        .take_while(|token| stays_inside(token))
+        .count()
+}
+
+// Whether the token isn't a `)`.
+fn stays_inside(token: &Token) -> bool
+    ensures { result ≡ stays_inside token.now }
+{
+    !matches!(token, Token::Symbol(Symbol::RightParen))
 }
 
 // The same in parentheses.
