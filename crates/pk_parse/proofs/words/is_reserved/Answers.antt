@@ -1,4 +1,4 @@
-use Rattle.std.proofs.Common.{◌≡◌, ◌∙◌, length}
+use Rattle.std.proofs.Common.{◌∙◌, length}
 use Rattle.std.proofs.lemmas.Bool.{ne_eqb}
 use Rattle.pk_parse.specs.Words.{reserved_by_length}
 use Rattle.pk_parse.proofs.WordLemmas.{reserved_of_length, no_length_else}
