@@ -1,0 +1,11 @@
+pub mod SetLemmas
+pub mod RowLemmas
+pub mod MakingLemmas
+pub mod KnownLemmas
+pub mod CountLemmas
+pub mod ShapeLemmas
+pub mod NameLemmas
+pub mod CauseLemmas
+pub mod FitLemmas
+pub mod NamedLemmas
+pub mod RemakeLemmas

@@ -1,0 +1,6 @@
+pub mod Shapes
+pub mod Making
+pub mod Admits
+pub mod Checks
+pub mod Laws
+pub mod Edges
