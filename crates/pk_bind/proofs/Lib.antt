@@ -1,0 +1,12 @@
+pub mod Utf8Lemmas
+pub mod FoundLemmas
+pub mod LiteralLemmas
+pub mod ConditionLemmas
+pub mod BoundLemmas
+pub mod FitLemmas
+pub mod TupleLemmas
+pub mod HeldLemmas
+pub mod ListedLemmas
+pub mod InsertLemmas
+pub mod SetLemmas
+pub mod LayerLemmas

@@ -1,0 +1,11 @@
+pub mod Bound
+pub mod Columns
+pub mod Literals
+pub mod Insert
+pub mod Conditions
+pub mod Update
+pub mod Delete
+pub mod Select
+pub mod Fitting
+pub mod Laws
+pub mod Edges

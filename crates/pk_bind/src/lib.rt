@@ -1,0 +1,38 @@
+//! What a statement says over the columns of a schema, or the first refusal that stands. A statement
+//! is bound once, before any row is looked at: names become places, and literals values.
+//!
+//! Each call has one clause on what it makes: `IsBound` of the statement's refusals, in their order, and
+//! of its meaning where none stands. What is ready may be done on every row that the schema admits:
+//! conditions are over the kinds of the columns, places lie within the row, and new rows are admitted.
+#![tactic(auto)]
+
+mod bound;
+mod columns;
+mod conditions;
+mod deleting;
+mod edges;
+mod edit;
+mod insertion;
+mod laws;
+mod literals;
+mod selecting;
+mod selection;
+mod tuples;
+mod updating;
+
+pub use bound::Bound;
+pub use deleting::bind_delete;
+pub use edges::{
+    conditions_at_their_edges, edits_and_queries_at_their_edges, inserts_at_their_edges,
+};
+pub use edit::{Edit, SetTo};
+pub use insertion::bind_insert;
+pub use laws::{
+    conditions_are_judgeable, new_rows_are_admitted, set_rows_are_admitted, what_is_bound_fits,
+};
+pub use selecting::bind_select;
+pub use selection::{OrderBy, Selection, Shown};
+pub use updating::bind_update;
+
+#[cfg(test)]
+mod tests;
