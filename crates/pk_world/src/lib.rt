@@ -9,11 +9,13 @@ mod memory_source;
 mod memory_station;
 mod source;
 mod station;
+mod store_err;
 
 pub use memory_source::MemorySource;
 pub use memory_station::MemoryStation;
 pub use source::{Pull, Source};
 pub use station::{Failed, Station, Which};
+pub use store_err::StoreErr;
 
 #[cfg(test)]
 mod tests;

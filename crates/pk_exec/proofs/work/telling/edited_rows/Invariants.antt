@@ -1,0 +1,6 @@
+use Rattle.std.proofs.Common.{◌≡◌, ◌++◌, drop}
+use Rattle.pk_exec.specs.Works.{put_edits}
+use Rattle.pk_exec.proofs.work.telling.edited_rows.Given as goal
+
+abbrev pub invariant-loop-edit : goal.invariant-loop-edit
+invariant-loop-edit l = l.rows.items ++ put_edits (drop l.edit-index l.edited) ≡ put_edits l.edited

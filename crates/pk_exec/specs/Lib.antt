@@ -1,0 +1,15 @@
+pub mod Answers
+pub mod Bases
+pub mod Changes
+pub mod Drafts
+pub mod Edits
+pub mod Entries
+pub mod Fates
+pub mod ListViews
+pub mod Reading
+pub mod Refusals
+pub mod Rows
+pub mod Selecting
+pub mod Settling
+pub mod Views
+pub mod Works

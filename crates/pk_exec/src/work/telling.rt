@@ -1,0 +1,93 @@
+//! What becomes of the base.
+
+ghost use Rattle.std.specs.Prelude.{◌≡◌, ◌≤◌, ◌+◌, ◌^◌, List, ◌++◌, length, All, IfOk};
+ghost use Rattle.pk_values.specs.declared.placed.Placed.{Placed};
+ghost use Rattle.pk_schema.specs.Shapes.{Shape};
+ghost use Rattle.pk_schema.specs.Admits.{Admits};
+ghost use Rattle.pk_exec.specs.Rows.{AscendFrom};
+ghost use Rattle.pk_exec.specs.Changes.{changes_of, placed_from};
+ghost use Rattle.pk_exec.specs.Works.{edited_ids, Covers, Fits, entries_of, gone_edits, put_edits};
+
+use crate::table_edits::EditedRow;
+use crate::work::Work;
+use pk_values::{Changes, Items, Memory, Placed, Row};
+use std::alloc::Global;
+
+impl Work {
+    /// What is changed of the table, where new rows get the ids from `next` on.
+    pub fn changes(&self, table: u32, next: u64) -> Result<Changes, Memory>
+        requires { next ≤ 2 ^ 62 }
+        ensures changes { IfOk result (λ changes. (rows : List Placed) → AscendFrom 1 rows → Covers self.now table rows → changes ≡ changes_of rows next (entries_of self.now table rows)) }
+        ensures admitted { IfOk result (λ changes. (s : Shape) → Fits self.now s table → All (λ p. Admits s p.row) changes.put) }
+    {
+        let (edited, added) = self.edits_of(table);
+        Ok(Changes {
+            gone: gone_ids(self.alloc, edited)?,
+            put: put_rows(self.alloc, edited, added, next)?,
+        })
+    }
+
+    /// The ids of the rows of the base that are edited, in their order.
+    pub fn touched(&self, table: u32) -> Result<Vec<u64>, Memory>
+        ensures { IfOk result (λ ids. ids.items ≡ edited_ids self.now table) }
+    {
+        let (edited, _) = self.edits_of(table);
+        let mut ids = Vec::with_capacity(self.alloc, edited.len())?;
+        for edit in edited {
+            ids.push(edit.id)?;
+        }
+        Ok(ids)
+    }
+}
+
+// The ids of the rows that are gone.
+fn gone_ids(alloc: Global, edited: &[EditedRow]) -> Result<Items<u64>, Memory>
+    ensures { IfOk result (λ ids. ids ≡ gone_edits edited.now) }
+{
+    let mut ids = Vec::new(alloc);
+    for edit in edited {
+        if edit.row.is_none() {
+            ids.push(edit.id)?;
+        }
+    }
+    Ok(Items::from_vec(ids))
+}
+
+// The rows that are put: the new rows of edits, and those that are added, which get the ids from `next`
+// on.
+fn put_rows(
+    alloc: Global,
+    edited: &[EditedRow],
+    added: &[Row],
+    next: u64,
+) -> Result<Items<Placed>, Memory>
+    requires { next + length added.now ≤ 2 ^ 63 }
+    ensures { IfOk result (λ rows. rows ≡ put_edits edited.now ++ placed_from next added.now) }
+{
+    let mut rows = edited_rows(alloc, edited)?;
+    let mut id = next;
+    for row in added {
+        rows.push(Placed {
+            id,
+            row: row.copy()?,
+        })?;
+        id += 1;
+    }
+    Ok(Items::from_vec(rows))
+}
+
+// The new rows of edits.
+fn edited_rows(alloc: Global, edited: &[EditedRow]) -> Result<Vec<Placed>, Memory>
+    ensures { IfOk result (λ rows. rows.items ≡ put_edits edited.now) }
+{
+    let mut rows = Vec::new(alloc);
+    for edit in edited {
+        if let Some(row) = &edit.row {
+            rows.push(Placed {
+                id: edit.id,
+                row: row.copy()?,
+            })?;
+        }
+    }
+    Ok(rows)
+}
