@@ -1,5 +1,6 @@
-use Rattle.std.proofs.Common.{◌≡◌, ℕ, ◌≤◌, ◌<◌, Bool, true, false, List, [], ◌∷◌, Option, Some, None, Result, Ok, Err, length, map, get_or, if◌then◌else◌, ap, refl, sym, arith, ◌∙◌, Ordering, inl, inr}
-use Rattle.std.specs.List.{AllByRecursion}
+use Rattle.std.proofs.Common.{◌≡◌, ℕ, ◌≤◌, ◌<◌, Bool, true, false, List, [], ◌∷◌, Option, Some, None, Result, Ok, Err, length, map, get_or, if◌then◌else◌, ap, refl, subst, sym, arith, ◌∙◌, Ordering, inl, inr}
+use Rattle.std.specs.List.{AllByRecursion, position}
+use Rattle.std.proofs.lemmas.Slice.Eq.{bytes_eq-Decides}
 use Rattle.std.specs.List.Sorted.{IsStrictlySortedBy, IsSearchInRange, IsBinarySearchResult, IsNonDecreasingBy}
 use Rattle.std.specs.Ordering.{nat_cmp, is_lt, is_eq, ordering_reverse, ordering_index}
 use Rattle.std.specs.declared.cmp.Ordering.TheVariants.{Less, Equal, Greater}
@@ -11,10 +12,11 @@ use Rattle.std.proofs.lemmas.Map.Keys.{Less-from_sorted}
 use Rattle.std.proofs.lemmas.List.Sums.{position_or_len_is}
 use Rattle.std.proofs.lemmas.List.{get_or-map, length-map}
 use Rattle.std.proofs.lemmas.Bool.{cases_lt}
-use Rattle.pk_values.specs.declared.placed.Placed.{Placed}
-use Rattle.pk_engine.specs.Base.{Table, IsInNameOrder, is_named, comes_before, table_named, with_table, with_rows, put_rows}
+use Rattle.pk_values.specs.declared.changes.Changes.{Changes}
+use Rattle.pk_engine.specs.Base.{Table, IsInNameOrder, is_named, comes_before, table_named, with_table, without_table, changed_by, change_table}
 use Rattle.pk_engine.specs.Place.{IsPlaceOf}
 use Rattle.pk_engine.proofs.ListLemmas.{position_at, no_position}
+use Rattle.pk_engine.proofs.RowLemmas.{changed_is_same}
 
 abbrev names : List Table → List (List ℕ)
 names ts = map (λ t. t.name) ts
@@ -75,17 +77,34 @@ order_with t (u ∷ us) rise new =
     let w = none_head (is_named t.name u) u (table_named t.name us) new in
     rise_step t u us (comes_before t.name u.name) refl w.0 rise (order_with t us rise.1 w.1)
 
-names_put : (name : List ℕ) (rows : List Placed) (ts : List Table) → names (put_rows name rows ts) ≡ names ts
-unfolding put_rows
-names_put name rows [] = refl
-names_put name rows (t ∷ ts) = elim (is_named name t) as (λ b. names (if b then with_rows rows t ∷ ts else t ∷ put_rows name rows ts) ≡ names (t ∷ ts)) [
-  | true ↦ refl
-  | false ↦ ap (λ ns. t.name ∷ ns) (names_put name rows ts)
+names_changed : (name : List ℕ) (c : Changes) (ts : List Table) → names (change_table name c ts) ≡ names ts
+unfolding change_table
+names_changed name c [] = refl
+names_changed name c (t ∷ ts) = elim (is_named name t) as (λ b. names (if b then changed_by c t ∷ ts else t ∷ change_table name c ts) ≡ names (t ∷ ts)) [
+  | true ↦ ap (λ n. n ∷ names ts) (changed_is_same c t).0
+  | false ↦ ap (λ ns. t.name ∷ ns) (names_changed name c ts)
 ]
 
--- rows change no name
-pub order_put : (name : List ℕ) (rows : List Placed) (ts : List Table) → IsInNameOrder ts → IsInNameOrder (put_rows name rows ts)
-order_put name rows ts order = rw (names_put name rows ts) order
+-- changes of rows change no name
+pub order_changed : (name : List ℕ) (c : Changes) (ts : List Table) → IsInNameOrder ts → IsInNameOrder (change_table name c ts)
+order_changed name c ts order = rw (names_changed name c ts) order
+
+names_without : (P : List ℕ → Type 0) (name : List ℕ) (ts : List Table) → AllByRecursion P (names ts) → AllByRecursion P (names (without_table name ts))
+unfolding without_table
+names_without P name [] ps = tt
+names_without P name (t ∷ ts) ps = elim (is_named name t) as (λ b. AllByRecursion P (names (if b then ts else t ∷ without_table name ts))) [
+  | true ↦ ps.1
+  | false ↦ (ps.0, names_without P name ts ps.1)
+]
+
+-- without one table the others stand as they stood
+pub order_without : (name : List ℕ) (ts : List Table) → IsInNameOrder ts → IsInNameOrder (without_table name ts)
+unfolding without_table IsStrictlySortedBy
+order_without name [] rise = tt
+order_without name (t ∷ ts) rise = elim (is_named name t) as (λ b. IsStrictlySortedBy (slice_cmp nat_cmp) (names (if b then ts else t ∷ without_table name ts))) [
+  | true ↦ rise.1
+  | false ↦ (names_without (λ n. slice_cmp nat_cmp t.name n ≡ Less) name ts rise.0, order_without name ts rise.1)
+]
 
 -- ---- a search by name
 
@@ -128,8 +147,8 @@ not_named name t o is = sym (is_eq-slice_cmp t.name name) ∙ ap is_eq is
 comes_behind : (name : List ℕ) (t : Table) (o : Ordering) → slice_cmp nat_cmp t.name name ≡ o → comes_before name t.name ≡ is_lt (ordering_reverse o)
 comes_behind name t o is = ap is_lt (nat_list_cmp_total.antisymm name t.name ∙ ap ordering_reverse is)
 
-blank : Table
-blank = record { name = []; columns = []; next = 0; rows = [] }
+pub blank : Table
+blank = record { name = []; shape = record { columns = []; keys = [] }; next = 0; rows = [] }
 
 -- a binary search by name ends at the place of the name
 pub searched : (name : List ℕ) (ts : List Table) (r : Result ℕ ℕ) → IsInNameOrder ts → IsSearchInRange r (length ts) → IsBinarySearchResult (λ t. slice_cmp nat_cmp t.name name) ts r → IsPlaceOf name ts r
@@ -148,3 +167,11 @@ searched name ts (Err i) order within parted =
     (λ k lt. comes_behind name (get_or ts k blank) Less (w.0 k blank (omega arith) lt))
     (λ lt. comes_behind name (get_or ts i blank) Greater (w.1 i blank (omega arith) lt)) in
     (no_position (is_named name) ts none, first)
+
+-- a table stands at the first place of its name
+pub place_of_table : (ts : List Table) (i : ℕ) (t : Table) → IsInNameOrder ts → i < length ts → t ≡ get_or ts i blank → position (is_named t.name) ts ≡ Some i
+place_of_table ts i t order within is =
+    let first = position_or_len_is (is_named t.name) ts i blank (omega (arith, within))
+    (λ k lt. not_named t.name (get_or ts k blank) Less (subst (λ (u : Table). slice_cmp nat_cmp (get_or ts k blank).name u.name ≡ Less) (sym is) (names_rise ts k i blank order lt within)))
+    (λ _. subst (λ (u : Table). is_named t.name u ≡ true) is ((bytes_eq-Decides t.name t.name).1 refl)) in
+    position_at (is_named t.name) ts i first within

@@ -1,9 +1,9 @@
 use Rattle.std.proofs.Common.{◌≡◌, ℕ, ◌+◌, Bool, true, false, not, List, [], ◌∷◌, Some, None, get_or, set, if◌then◌else◌, arith, ap, refl, suc}
 use Rattle.std.specs.Prelude.{insert}
-use Rattle.std.specs.List.{position, position_or_len}
+use Rattle.std.specs.List.{position, position_or_len, remove}
 use Rattle.std.proofs.lemmas.Grind.{common_steps}
-use Rattle.pk_values.specs.declared.placed.Placed.{Placed}
-use Rattle.pk_engine.specs.Base.{Table, is_named, comes_before, table_named, with_table, with_rows, put_rows}
+use Rattle.pk_values.specs.declared.changes.Changes.{Changes}
+use Rattle.pk_engine.specs.Base.{Table, is_named, comes_before, table_named, with_table, without_table, changed_by, change_table}
 use Rattle.pk_engine.proofs.ListLemmas.{find_found, find_none}
 
 with_table_step : (b : Bool) (t u : Table) (us rest : List Table) (n : ℕ) → rest ≡ insert us n t
@@ -17,18 +17,30 @@ unfolding with_table
 with_table_place t [] = refl
 with_table_place t (u ∷ us) = with_table_step (comes_before t.name u.name) t u us _ _ (with_table_place t us)
 
-put_rows_step : (b : Bool) (t d : Table) (ts rest : List Table) (n : ℕ) (rows : List Placed) → rest ≡ set ts n (with_rows rows (get_or ts n d))
-    → if b then with_rows rows t ∷ ts else t ∷ rest ≡ set (t ∷ ts) (if not b then 1 + n else 0) (with_rows rows (get_or (t ∷ ts) (if not b then 1 + n else 0) d))
-put_rows_step true t d ts rest n rows e = refl
-put_rows_step false t d ts rest n rows e =
+change_step : (b : Bool) (t d : Table) (ts rest : List Table) (n : ℕ) (c : Changes) → rest ≡ set ts n (changed_by c (get_or ts n d))
+    → if b then changed_by c t ∷ ts else t ∷ rest ≡ set (t ∷ ts) (if not b then 1 + n else 0) (changed_by c (get_or (t ∷ ts) (if not b then 1 + n else 0) d))
+change_step true t d ts rest n c e = refl
+change_step false t d ts rest n c e =
     let one_more : 1 + n ≡ suc n = omega arith in
     rw one_more (ap (λ (us : List Table). t ∷ us) e)
 
--- rows are put into the first table of the name
-pub put_rows_place : (name : List ℕ) (rows : List Placed) (ts : List Table) (d : Table) → put_rows name rows ts ≡ set ts (position_or_len (is_named name) ts) (with_rows rows (get_or ts (position_or_len (is_named name) ts) d))
-unfolding put_rows
-put_rows_place name rows [] d = refl
-put_rows_place name rows (t ∷ ts) d = put_rows_step (is_named name t) t d ts _ _ rows (put_rows_place name rows ts d)
+-- the first table of the name is changed
+pub change_place : (name : List ℕ) (c : Changes) (ts : List Table) (d : Table) → change_table name c ts ≡ set ts (position_or_len (is_named name) ts) (changed_by c (get_or ts (position_or_len (is_named name) ts) d))
+unfolding change_table
+change_place name c [] d = refl
+change_place name c (t ∷ ts) d = change_step (is_named name t) t d ts _ _ c (change_place name c ts d)
+
+without_step : (b : Bool) (t : Table) (ts rest : List Table) (n : ℕ) → rest ≡ remove ts n → if b then ts else t ∷ rest ≡ remove (t ∷ ts) (if not b then 1 + n else 0)
+without_step true t ts rest n e = refl
+without_step false t ts rest n e =
+    let one_more : 1 + n ≡ suc n = omega arith in
+    rw one_more (ap (λ (us : List Table). t ∷ us) e)
+
+-- the first table of the name is left out
+pub without_place : (name : List ℕ) (ts : List Table) → without_table name ts ≡ remove ts (position_or_len (is_named name) ts)
+unfolding without_table
+without_place name [] = refl
+without_place name (t ∷ ts) = without_step (is_named name t) t ts _ _ (without_place name ts)
 
 -- the table of a name stands at the first place of the name
 pub named_at : (name : List ℕ) (ts : List Table) (i : ℕ) (t : Table) → position (is_named name) ts ≡ Some i → t ≡ get_or ts i t → table_named name ts ≡ Some t

@@ -1,37 +1,33 @@
-use Rattle.std.proofs.Common.{◌≡◌, ℕ, ◌+◌, Bool, true, false, List, [], ◌∷◌, ◌++◌, Option, Some, None, length, if◌then◌else◌, refl, suc, subst, take, drop, ◌==◌, arith, ◌∙◌, sym, All}
-use Rattle.std.specs.List.{AllByRecursion, position_or_len}
+-- Bases stay valid.
+use Rattle.std.proofs.Common.{◌≡◌, ℕ, ◌+◌, ◌≤◌, ◌<◌, Bool, true, false, List, [], ◌∷◌, Some, None, length, if◌then◌else◌, refl, suc, subst, ap, take, drop, arith, ◌∙◌, sym}
+use Rattle.std.specs.Prelude.{sum_by}
+use Rattle.std.specs.List.{All, AllByRecursion, position_or_len}
 use Rattle.std.specs.List.Sorted.{IsStrictlySortedBy}
 use Rattle.std.proofs.lemmas.List.Elements.{All-nil, All-cons, All-append, All-take, All-drop, All-from_recursion, recursion_from_All}
-use Rattle.std.proofs.lemmas.List.{length-map}
-use Rattle.pk_values.specs.declared.value.Value.{Value}
+use Rattle.std.proofs.lemmas.List.Sums.{sum_by-insert, sum_by-cons}
 use Rattle.pk_values.specs.declared.placed.Placed.{Placed}
-use Rattle.pk_values.specs.declared.refusal.Refusal.{Refusal}
-use Rattle.pk_parse.specs.declared.declaration.ColumnDecl.{ColumnDecl}
-use Rattle.pk_parse.specs.declared.literal.Literal.{Literal}
-use Rattle.pk_parse.specs.declared.declaration.TableDecl.{TableDecl}
-use Rattle.pk_parse.specs.declared.edit.Insert.{Insert}
-use Rattle.pk_parse.specs.declared.statement.Statement.{Statement}
-use Rattle.pk_parse.specs.declared.statement.Statement.TheVariants.{Create, Insert as InsertInto}
-use Rattle.pk_engine.specs.Base.{Table, empty_base, is_named, comes_before, table_named, with_table, with_rows, put_rows}
-use Rattle.pk_engine.specs.State.{State, Commit, Made, Changed, made_table, current, committed, with_commit}
-use Rattle.pk_engine.specs.Refusing.{Step, first_some, refused_or, decided, table_of}
-use Rattle.pk_engine.specs.Create.{table_exists, create_refusals, created}
-use Rattle.pk_engine.specs.Insert.{inserted, placed_from, placed_rows, new_rows, made_row, made_rows, sources, given, place_of_column, targets}
-use Rattle.pk_engine.specs.Answer.{refusals, done, answer}
-use Rattle.pk_engine.specs.Valid.{IdsRise, IsValidTable, IsValid}
-use Rattle.pk_engine.proofs.OrderLemmas.{order_with, order_put}
+use Rattle.pk_values.specs.declared.changes.Changes.{Changes}
+use Rattle.pk_schema.specs.Shapes.{Shape, IsShape}
+use Rattle.pk_schema.specs.Admits.{Admits}
+use Rattle.pk_exec.specs.Entries.{Entry, row_in}
+use Rattle.pk_exec.specs.Changes.{added_rows}
+use Rattle.pk_engine.specs.Base.{Base, Table, empty_base, is_named, comes_before, table_named, with_table, without_table, changed_by, change_table, row_count}
+use Rattle.pk_engine.specs.Entries.{placed, AreOf}
+use Rattle.pk_engine.specs.State.{Made, Dropped, Changed, made_table, committed}
+use Rattle.pk_engine.specs.Limits.{most_tables, most_rows, most_ids}
+use Rattle.pk_engine.specs.Valid.{IsValidTable, IsValid}
+use Rattle.pk_engine.proofs.OrderLemmas.{order_with, order_changed, order_without}
 use Rattle.pk_engine.proofs.TableLemmas.{with_table_place}
-use Rattle.pk_engine.proofs.StandsLemmas.{after_more, new_step}
-use Rattle.pk_engine.proofs.RefusalLemmas.{create_new}
+use Rattle.pk_engine.proofs.EntryLemmas.{entries_committed, entries_rise, entries_hold}
 
 -- ---- a table made
 
 pub empty_base_valid : IsValid empty_base
 unfolding IsStrictlySortedBy
-empty_base_valid = record { names = tt; tables = All-nil IsValidTable }
+empty_base_valid = record { names = tt; tables = All-nil IsValidTable; few_tables = omega arith; few_rows = omega arith; few_commits = omega arith }
 
-made_valid : (name : List ℕ) (columns : List ColumnDecl) → IsValidTable (made_table name columns)
-made_valid name columns = record { ids = omega arith; widths = All-nil (λ (p : Placed). length p.row ≡ length columns) }
+made_valid : (name : List ℕ) (s : Shape) → IsShape s → IsValidTable (made_table name s)
+made_valid name s shape = record { shape = shape; ids = omega arith; rows = All-nil (λ (p : Placed). Admits s p.row); next = omega arith }
 
 tables_with : (t : Table) (ts : List Table) → IsValidTable t → All IsValidTable ts → All IsValidTable (with_table t ts)
 tables_with t ts valid all =
@@ -39,97 +35,118 @@ tables_with t ts valid all =
     rw (with_table_place t ts) (All-append IsValidTable (take place ts) (t ∷ drop place ts)
     (All-take IsValidTable place ts all) (All-cons IsValidTable t (drop place ts) valid (All-drop IsValidTable place ts all)))
 
--- ---- rows put
+length-with_table : (t : Table) (ts : List Table) → length (with_table t ts) ≡ suc (length ts)
+unfolding with_table
+length-with_table t [] = refl
+length-with_table t (u ∷ us) = elim (comes_before t.name u.name) as (λ b. length (if b then t ∷ u ∷ us else u ∷ with_table t us) ≡ suc (suc (length us))) [
+  | true ↦ refl
+  | false ↦ ap suc (length-with_table t us)
+]
 
-tables_put_step : (t : Table) (ts rest : List Table) (others : Option Table) (rows : List Placed) (b : Bool) → IsValidTable t → AllByRecursion IsValidTable ts
-    → ((u : Table) → if b then Some t else others ≡ Some u → IsValidTable u → IsValidTable (with_rows rows u))
-    → (((u : Table) → others ≡ Some u → IsValidTable u → IsValidTable (with_rows rows u)) → AllByRecursion IsValidTable rest)
-    → AllByRecursion IsValidTable (if b then with_rows rows t ∷ ts else t ∷ rest)
-tables_put_step t ts rest others rows true valid all put more = (put t refl valid, all)
-tables_put_step t ts rest others rows false valid all put more = (valid, more put)
+pub rows_with_table : (t : Table) (ts : List Table) → sum_by (λ (u : Table). length u.rows) (with_table t ts) ≡ length t.rows + sum_by (λ (u : Table). length u.rows) ts
+rows_with_table t ts =
+    let place = position_or_len (λ (u : Table). comes_before t.name u.name) ts in
+    let counted = sum_by-insert (λ (u : Table). length u.rows) ts place t in
+    let is = ap (sum_by (λ (u : Table). length u.rows)) (with_table_place t ts) in
+    omega (arith, counted, is)
 
--- where the table of a name stays valid, all do
-tables_put : (name : List ℕ) (rows : List Placed) (ts : List Table) → AllByRecursion IsValidTable ts
-    → ((t : Table) → table_named name ts ≡ Some t → IsValidTable t → IsValidTable (with_rows rows t))
-    → AllByRecursion IsValidTable (put_rows name rows ts)
-unfolding put_rows table_named
-tables_put name rows [] all put = tt
-tables_put name rows (t ∷ ts) all put =
-    tables_put_step t ts (put_rows name rows ts) (table_named name ts) rows (is_named name t) all.0 all.1 put (tables_put name rows ts all.1)
+-- a base is valid with one table more, where there is room
+pub made_is_valid : (b : Base) (name : List ℕ) (s : Shape) → IsValid b → IsShape s → table_named name b.tables ≡ None → length b.tables < most_tables → b.commit < most_ids
+    → IsValid (committed b (Made name s))
+made_is_valid b name s valid shape new room commits = record {
+  names = order_with (made_table name s) b.tables valid.names new;
+  tables = tables_with (made_table name s) b.tables (made_valid name s shape) valid.tables;
+  few_tables = (let n = length-with_table (made_table name s) b.tables in omega (arith, n, room));
+  few_rows = (let n = rows_with_table (made_table name s) b.tables in let old = valid.few_rows in omega (arith, n, old));
+  few_commits = omega (arith, commits);
+}
 
--- ids from one on, behind ids below it
-rise_append : (least mid next : ℕ) (ps qs : List Placed) → IdsRise least ps mid → IdsRise mid qs next → IdsRise least (ps ++ qs) next
-rise_append least mid next [] [] low high = omega arith
-rise_append least mid next [] (q ∷ qs) low high = (omega (arith, low, high.0), high.1)
-rise_append least mid next (p ∷ ps) qs low high = (low.0, rise_append (p.id + 1) mid next ps qs low.1 high)
+-- ---- a table dropped
 
-placed_rise : (id : ℕ) (rows : List (List Value)) → IdsRise id (placed_from id rows) (id + length (placed_from id rows))
-placed_rise id [] = omega arith
-placed_rise id (row ∷ rows) =
-    let n = length (placed_from (id + 1) rows) in
-    let same : id + 1 + n ≡ id + suc n = omega arith in
-    (omega arith, subst (λ (next : ℕ). IdsRise (id + 1) (placed_from (id + 1) rows) next) same (placed_rise (id + 1) rows))
+without_all : (P : Table → Type 0) (name : List ℕ) (ts : List Table) → AllByRecursion P ts → AllByRecursion P (without_table name ts)
+unfolding without_table
+without_all P name [] all = tt
+without_all P name (t ∷ ts) all = elim (is_named name t) as (λ b. AllByRecursion P (if b then ts else t ∷ without_table name ts)) [
+  | true ↦ all.1
+  | false ↦ (all.0, without_all P name ts all.1)
+]
 
-placed_wide : (columns listed : List ColumnDecl) (id : ℕ) (rows : List (List Literal))
-    → AllByRecursion (λ p. length p.row ≡ length columns) (placed_from id (made_rows columns listed rows))
-unfolding made_row
-placed_wide columns listed id [] = tt
-placed_wide columns listed id (row ∷ rows) = (
-  length-map (sources columns listed) (given row) ∙ length-map columns (λ (c : ColumnDecl). place_of_column listed c.name),
-  placed_wide columns listed (id + 1) rows,
-)
+length-without : (name : List ℕ) (ts : List Table) → length (without_table name ts) ≤ length ts
+unfolding without_table
+length-without name [] = omega arith
+length-without name (t ∷ ts) = elim (is_named name t) as (λ b. length (if b then ts else t ∷ without_table name ts) ≤ suc (length ts)) [
+  | true ↦ omega arith
+  | false ↦ (let rest = length-without name ts in omega (arith, rest))
+]
 
-put_valid : (t : Table) (i : Insert) → IsValidTable t → IsValidTable (with_rows (placed_from t.next (new_rows t.columns i)) t)
-unfolding new_rows
-put_valid t i valid =
-    let rows = new_rows t.columns i in
-    record {
-      ids = rise_append 1 t.next (t.next + length (placed_from t.next rows)) t.rows (placed_from t.next rows) valid.ids (placed_rise t.next rows);
-      widths = All-append (λ (p : Placed). length p.row ≡ length t.columns) t.rows (placed_from t.next rows) valid.widths
-          (All-from_recursion (λ (p : Placed). length p.row ≡ length t.columns) (placed_from t.next rows)
-          (placed_wide t.columns (targets t.columns i.columns) t.next i.rows));
+rows_without : (name : List ℕ) (ts : List Table) → sum_by (λ (u : Table). length u.rows) (without_table name ts) ≤ sum_by (λ (u : Table). length u.rows) ts
+unfolding without_table
+rows_without name [] = omega arith
+rows_without name (t ∷ ts) = go (is_named name t) (rows_without name ts)
+  where
+    go : (b : Bool) → sum_by (λ (v : Table). length v.rows) (without_table name ts) ≤ sum_by (λ (v : Table). length v.rows) ts
+        → sum_by (λ (v : Table). length v.rows) (if b then ts else t ∷ without_table name ts) ≤ sum_by (λ (v : Table). length v.rows) (t ∷ ts)
+    go true rest = (let all = sum_by-cons (λ (v : Table). length v.rows) t ts in omega (arith, all))
+    go false rest =
+        let all = sum_by-cons (λ (v : Table). length v.rows) t ts in
+        let left = sum_by-cons (λ (v : Table). length v.rows) t (without_table name ts) in
+        omega (arith, all, left, rest)
+
+-- and without one
+pub dropped_is_valid : (b : Base) (name : List ℕ) → IsValid b → b.commit < most_ids → IsValid (committed b (Dropped name))
+dropped_is_valid b name valid commits = record {
+  names = order_without name b.tables valid.names;
+  tables = All-from_recursion IsValidTable (without_table name b.tables) (without_all IsValidTable name b.tables (recursion_from_All IsValidTable b.tables valid.tables));
+  few_tables = (let n = length-without name b.tables in let old = valid.few_tables in omega (arith, n, old));
+  few_rows = (let n = rows_without name b.tables in let old = valid.few_rows in omega (arith, n, old));
+  few_commits = omega (arith, commits);
+}
+
+-- ---- rows changed
+
+-- a table is valid after changes that entries make of it, where its ids have room
+pub changed_table_valid : (t : Table) (c : Changes) → IsValidTable t → AreOf t c → (changed_by c t).next ≤ most_ids → IsValidTable (changed_by c t)
+changed_table_valid t c valid of room =
+    let es = of.0 in
+    let is : changed_by c t ≡ record t { next = t.next + length (added_rows es); rows = placed t.next es } = ap (λ (d : Changes). changed_by d t) of.3 ∙ entries_committed t es valid.ids of.1 in
+    subst IsValidTable (sym is) record {
+      shape = valid.shape;
+      ids = entries_rise t.rows es 1 t.next of.1 valid.ids;
+      rows = All-from_recursion (λ (p : Placed). Admits t.shape p.row) (placed t.next es)
+          (entries_hold (Admits t.shape) es t.next (recursion_from_All (λ (e : Entry). Admits t.shape (row_in e)) es of.2));
+      next = subst (λ (u : Table). u.next ≤ most_ids) is room;
     }
 
--- ---- answers
+changed_all : (P : Table → Type 0) (name : List ℕ) (c : Changes) (ts : List Table) → AllByRecursion P ts → ((t : Table) → table_named name ts ≡ Some t → P t → P (changed_by c t))
+    → AllByRecursion P (change_table name c ts)
+unfolding change_table table_named
+changed_all P name c [] all keeps = tt
+changed_all P name c (t ∷ ts) all keeps = go (is_named name t) refl (changed_all P name c ts all.1)
+  where
+    go : (b : Bool) → is_named name t ≡ b → (((u : Table) → table_named name ts ≡ Some u → P u → P (changed_by c u)) → AllByRecursion P (change_table name c ts))
+        → AllByRecursion P (if b then changed_by c t ∷ ts else t ∷ change_table name c ts)
+    go true is rest = (keeps t (ap (λ (b : Bool). if b then Some t else table_named name ts) is) all.0, all.1)
+    go false is rest = (all.0, rest (λ u found. keeps u (ap (λ (b : Bool). if b then Some t else table_named name ts) is ∙ found)))
 
-valid_refused_or : (st : State) (r : Option Refusal) (done : Step) → IsValid (current st) → (r ≡ None → IsValid (current done.next)) → IsValid (current (refused_or st r done).next)
-valid_refused_or st (Some r) done left free = left
-valid_refused_or st None done left free = free refl
+length-change_table : (name : List ℕ) (c : Changes) (ts : List Table) → length (change_table name c ts) ≡ length ts
+unfolding change_table
+length-change_table name c [] = refl
+length-change_table name c (t ∷ ts) = elim (is_named name t) as (λ b. length (if b then changed_by c t ∷ ts else t ∷ change_table name c ts) ≡ suc (length ts)) [
+  | true ↦ refl
+  | false ↦ ap suc (length-change_table name c ts)
+]
 
--- a base is valid after an answer, if it is after what is done where no refusal stands
-valid_decided : (st : State) (rs : List (Option Refusal)) (done : Step) → IsValid (current st) → (first_some rs ≡ None → IsValid (current done.next)) → IsValid (current (decided st rs done).next)
-valid_decided st rs done left free = valid_refused_or st (first_some rs) done left free
-
-valid_commit : (st : State) (c : Commit) → IsValid (committed (current st) c) → IsValid (current (with_commit st c))
-unfolding current
-valid_commit st c valid = rw (after_more st.start st.commits c) valid
-
-create_valid : (st : State) (d : TableDecl) → IsValid (current st) → first_some (create_refusals st d) ≡ None → IsValid (current (created st d).next)
-unfolding table_exists
-create_valid st d valid free =
-    let ts = (current st).tables in
-    let new = new_step d.table (table_named d.table ts) (create_new st d free) in
-    valid_commit st (Made d.table d.columns) record {
-      names = order_with (made_table d.table d.columns) ts valid.names new;
-      tables = tables_with (made_table d.table d.columns) ts (made_valid d.table d.columns) valid.tables;
-    }
-
-insert_valid : (st : State) (i : Insert) → IsValid (current st) → IsValid (current (inserted st i).next)
-insert_valid st i valid =
-    let ts = (current st).tables in
-    let rows = placed_rows (table_of st i.table) i in
-    valid_commit st (Changed ((i.table, rows) ∷ [])) record {
-      names = order_put i.table rows ts valid.names;
-      tables = All-from_recursion IsValidTable (put_rows i.table rows ts) (tables_put i.table rows ts (recursion_from_All IsValidTable ts valid.tables)
-          (λ t at good. subst (λ (o : Option Table). IsValidTable (with_rows (placed_rows o i) t)) (sym at) (put_valid t i good)));
-    }
-
-done_valid : (st : State) (s : Statement) → IsValid (current st) → first_some (refusals st s) ≡ None → IsValid (current (done st s).next)
-unfolding refusals done
-done_valid st (Create d) valid free = create_valid st d valid free
-done_valid st (InsertInto i) valid free = insert_valid st i valid
-done_valid st _ valid free = valid
-
-pub answer_valid : (st : State) (s : Statement) → IsValid (current st) → IsValid (current (answer st s).next)
-unfolding answer
-answer_valid st s valid = valid_decided st (refusals st s) (done st s) valid (done_valid st s valid)
+-- a base is valid after changes of one table, where the limits have room
+pub changed_is_valid : (b : Base) (t : Table) (c : Changes) → IsValid b → table_named t.name b.tables ≡ Some t → IsValidTable t → AreOf t c → (changed_by c t).next ≤ most_ids
+    → row_count (committed b (Changed ((t.name, c) ∷ []))) ≤ most_rows → b.commit < most_ids → IsValid (committed b (Changed ((t.name, c) ∷ [])))
+changed_is_valid b t c valid there good of ids rows commits = record {
+  names = order_changed t.name c b.tables valid.names;
+  tables = All-from_recursion IsValidTable (change_table t.name c b.tables) (changed_all IsValidTable t.name c b.tables (recursion_from_All IsValidTable b.tables valid.tables)
+      (λ u found kept. subst (λ (v : Table). IsValidTable (changed_by c v)) (same_some t u (sym there ∙ found)) (changed_table_valid t c good of ids)));
+  few_tables = rw (length-change_table t.name c b.tables) valid.few_tables;
+  few_rows = rows;
+  few_commits = omega (arith, commits);
+}
+  where
+    same_some : (x y : Table) → Some x ≡ Some y → x ≡ y
+    same_some x y e = cc

@@ -1,63 +1,35 @@
-use Rattle.std.specs.Prelude.{Bool, true, false, ◌&&◌, List, [], ◌∷◌, length, Option, None, is_none}
-use Rattle.pk_values.specs.declared.refusal.Refusal.{Refusal}
+use Rattle.std.specs.Prelude.{Bool, true, false}
 use Rattle.pk_parse.specs.declared.statement.Statement.{Statement}
-use Rattle.pk_parse.specs.declared.statement.Statement.TheVariants.{Create, Insert as InsertInto, Select as SelectFrom}
-use Rattle.pk_parse.specs.declared.declaration.TableDecl.{TableDecl}
-use Rattle.pk_parse.specs.declared.query.Select.{Select}
-use Rattle.pk_parse.specs.declared.query.What.{What}
-use Rattle.pk_parse.specs.declared.query.What.TheVariants.{All, Columns, Count}
-use Rattle.pk_parse.specs.Declarations.{columns_are_few}
+use Rattle.pk_parse.specs.declared.statement.Statement.TheVariants.{Create, Drop, Insert as InsertInto, Update, Delete, Select as SelectFrom}
 use Rattle.pk_report.specs.declared.reply.Reply.TheVariants.{CommittedNothing}
+use Rattle.pk_bind.specs.Select.{select_refusals}
 use Rattle.pk_engine.specs.State.{State}
-use Rattle.pk_engine.specs.Refusing.{Step, decided}
+use Rattle.pk_engine.specs.Refusing.{Step, decided, about}
 use Rattle.pk_engine.specs.Create.{create_refusals, created}
-use Rattle.pk_engine.specs.Insert.{insert_refusals, inserted}
-use Rattle.pk_engine.specs.Select.{select_refusals, selected}
+use Rattle.pk_engine.specs.Drop.{drop_refusals, dropped}
+use Rattle.pk_engine.specs.Edits.{insert_refusals, inserted, update_refusals, updated_rows, delete_refusals, deleted_rows}
+use Rattle.pk_engine.specs.Select.{selected_rows}
 
 -- a statement that isn't answered yet leaves the state, and nobody asks for its reply
 abbrev pub unanswered : State → Step
 unanswered st = record { reply = CommittedNothing; next = st }
 
--- what a statement is refused for, in the order in which it is tried
-unfoldable pub refusals : State → Statement → List (Option Refusal)
-refusals st (Create d) = create_refusals st d
-refusals st (InsertInto i) = insert_refusals st i
-refusals st (SelectFrom s) = select_refusals st s
-refusals st _ = []
-
--- what a statement does where it isn't refused
-unfoldable pub done : State → Statement → Step
-done st (Create d) = created st d
-done st (InsertInto i) = inserted st i
-done st (SelectFrom s) = selected st s
-done st _ = unanswered st
-
--- the answer to a statement
+-- the answer to a statement: the first refusal that stands, or else what it does
 unfoldable pub answer : State → Statement → Step
-answer st s = decided st (refusals st s) (done st s)
-
--- a list of nothing
-abbrev pub is_empty : {X : Type 0} → List X → Bool
-is_empty [] = true
-is_empty (x ∷ xs) = false
-
--- a table of at most 32 columns and without keys
-abbrev pub is_answered_table : TableDecl → Bool
-is_answered_table d = columns_are_few d && is_empty d.keys
-
--- all columns are asked for
-abbrev pub asks_all : What → Bool
-asks_all All = true
-asks_all (Columns names) = false
-asks_all Count = false
-
--- all columns and all rows, in the order in which they stand
-abbrev pub is_all : Select → Bool
-is_all s = is_none s.cond && asks_all s.what && is_empty s.order
+answer st (Create d) = decided st (create_refusals st d) (created st d)
+answer st (Drop name) = about st name (λ t. decided st (drop_refusals st t) (dropped st t))
+answer st (InsertInto i) = about st i.table (λ t. decided st (insert_refusals st t i) (inserted st t i))
+answer st (Update u) = about st u.table (λ t. decided st (update_refusals st t u) (updated_rows st t u))
+answer st (Delete d) = about st d.table (λ t. decided st (delete_refusals st t d) (deleted_rows st t d))
+answer st (SelectFrom s) = about st s.table (λ t. decided st (select_refusals t.shape s) (selected_rows st t s))
+answer st _ = unanswered st
 
 -- the statements that the engine answers
 unfoldable pub is_answered : Statement → Bool
-is_answered (Create d) = is_answered_table d
+is_answered (Create d) = true
+is_answered (Drop name) = true
 is_answered (InsertInto i) = true
-is_answered (SelectFrom s) = is_all s
+is_answered (Update u) = true
+is_answered (Delete d) = true
+is_answered (SelectFrom s) = true
 is_answered _ = false

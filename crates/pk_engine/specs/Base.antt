@@ -1,15 +1,17 @@
-use Rattle.std.specs.Prelude.{ℕ, ◌+◌, Bool, List, [], ◌∷◌, ◌++◌, length, map, sum_by, Option, find, if◌then◌else◌}
+use Rattle.std.specs.Prelude.{ℕ, ◌+◌, Bool, not, ◌==◌, List, [], ◌∷◌, ◌++◌, length, map, filter, sum_by, Option, find, nat_lt, if◌then◌else◌}
+use Rattle.std.specs.List.{list_any}
 use Rattle.std.specs.Str.{bytes_eq}
 use Rattle.std.specs.Ordering.{nat_cmp, is_lt}
 use Rattle.std.specs.Cmp.Lexicographic.{slice_cmp}
 use Rattle.std.specs.List.Sorted.{IsStrictlySortedBy}
 use Rattle.pk_values.specs.declared.placed.Placed.{Placed}
-use Rattle.pk_parse.specs.declared.declaration.ColumnDecl.{ColumnDecl}
+use Rattle.pk_values.specs.declared.changes.Changes.{Changes}
+use Rattle.pk_schema.specs.Shapes.{Shape}
 
 -- a table: its rows stand in ascending order of their ids, and each id is below the next one
 pub record Table : Type 0 where
   pub name : List ℕ
-  pub columns : List ColumnDecl
+  pub shape : Shape
   pub next : ℕ
   pub rows : List Placed
 
@@ -43,14 +45,42 @@ unfoldable pub with_table : Table → List Table → List Table
 with_table t [] = t ∷ []
 with_table t (u ∷ us) = if comes_before t.name u.name then t ∷ u ∷ us else u ∷ with_table t us
 
--- the table with these rows at its end; the next id is as many higher
-abbrev pub with_rows : List Placed → Table → Table
-with_rows rows t = record t { next = t.next + length rows; rows = t.rows ++ rows }
+-- the tables but that of this name
+unfoldable pub without_table : List ℕ → List Table → List Table
+without_table name [] = []
+without_table name (t ∷ ts) = if is_named name t then ts else t ∷ without_table name ts
 
--- the tables with these rows put into the one of this name
-unfoldable pub put_rows : List ℕ → List Placed → List Table → List Table
-put_rows name rows [] = []
-put_rows name rows (t ∷ ts) = if is_named name t then with_rows rows t ∷ ts else t ∷ put_rows name rows ts
+-- ---- rows changed
+
+-- the row has one of these ids
+abbrev pub has_id : List ℕ → Placed → Bool
+has_id ids p = list_any (λ id. id == p.id) ids
+
+-- the row in place of the one with its id
+abbrev pub replaced_by : Placed → Placed → Placed
+replaced_by new p = if p.id == new.id then new else p
+
+-- the table with a row put: in place of the row with its id where that is below the next one, and else at the end
+unfoldable pub with_row : Table → Placed → Table
+with_row t p = if nat_lt p.id t.next then record t { rows = map (replaced_by p) t.rows } else record t { next = p.id + 1; rows = t.rows ++ p ∷ [] }
+
+-- the table with rows put, one behind the other
+unfoldable pub with_rows : List Placed → Table → Table
+with_rows [] t = t
+with_rows (p ∷ ps) t = with_rows ps (with_row t p)
+
+-- the table without the rows of these ids
+abbrev pub without_rows : List ℕ → Table → Table
+without_rows ids t = record t { rows = filter (λ p. not (has_id ids p)) t.rows }
+
+-- the table after these changes
+unfoldable pub changed_by : Changes → Table → Table
+changed_by c t = with_rows c.put (without_rows c.gone t)
+
+-- the tables with the one of this name changed
+unfoldable pub change_table : List ℕ → Changes → List Table → List Table
+change_table name c [] = []
+change_table name c (t ∷ ts) = if is_named name t then changed_by c t ∷ ts else t ∷ change_table name c ts
 
 -- how many rows the tables have together
 abbrev pub row_count : Base → ℕ

@@ -1,30 +1,28 @@
-use Rattle.std.specs.Prelude.{ℕ, List, [], ◌∷◌, map, Option, Some, None}
-use Rattle.pk_values.specs.declared.refusal.Refusal.{Refusal}
-use Rattle.pk_values.specs.declared.refusal.Refusal.TheVariants.{NoTable}
+use Rattle.std.specs.Prelude.{length}
 use Rattle.pk_parse.specs.declared.query.Select.{Select}
+use Rattle.pk_parse.specs.declared.query.What.{What}
+use Rattle.pk_parse.specs.declared.query.What.TheVariants.{All, Columns, Count}
+use Rattle.pk_parse.specs.Declarations.{names_of}
 use Rattle.pk_report.specs.declared.reply.Reply.{Reply}
-use Rattle.pk_report.specs.declared.reply.Reply.TheVariants.{Selected}
+use Rattle.pk_report.specs.declared.reply.Reply.TheVariants as replies
+use Rattle.pk_bind.specs.Select.{selection_of}
+use Rattle.pk_exec.specs.Selecting.{selected}
+use Rattle.pk_exec.specs.declared.selected.Selected.{Selected}
 use Rattle.pk_engine.specs.Base.{Table}
 use Rattle.pk_engine.specs.State.{State}
-use Rattle.pk_engine.specs.Refusing.{Step, table_of}
+use Rattle.pk_engine.specs.Refusing.{Step}
+use Rattle.pk_engine.specs.Edits.{entries_in}
 
--- the base has no table of this name
-abbrev pub unless_found : List ℕ → Option Table → Option Refusal
-unless_found name (Some t) = None
-unless_found name None = Some (NoTable name)
+-- what a SELECT finds in a table
+abbrev pub found : Table → Select → Selected
+found t s = selected (selection_of t.shape.columns s) (names_of t.shape.columns) (entries_in t)
 
-unfoldable pub no_table : State → List ℕ → Option Refusal
-no_table st name = unless_found name (table_of st name)
-
--- what SELECT is refused for
-abbrev pub select_refusals : State → Select → List (Option Refusal)
-select_refusals st s = no_table st s.table ∷ []
-
--- all rows of a table, under the names of its columns
-abbrev pub selected_of : Option Table → Reply
-selected_of (Some t) = Selected (map (λ c. c.name) t.columns) (map (λ p. p.row) t.rows)
-selected_of None = Selected [] []
+-- rows are told with their header, or by their number
+abbrev pub told_as : What → Selected → Reply
+told_as All rows = replies.Selected rows.header rows.rows
+told_as (Columns names) rows = replies.Selected rows.header rows.rows
+told_as Count rows = replies.Count (length rows.rows)
 
 -- SELECT that isn't refused: no commit
-abbrev pub selected : State → Select → Step
-selected st s = record { reply = selected_of (table_of st s.table); next = st }
+abbrev pub selected_rows : State → Table → Select → Step
+selected_rows st t s = record { reply = told_as s.what (found t s); next = st }

@@ -1,19 +1,14 @@
 use Rattle.std.specs.Prelude.{ℕ, ◌+◌, List, [], ◌∷◌, ◌++◌, codes}
-use Rattle.pk_values.specs.declared.placed.Placed.{Placed}
-use Rattle.pk_values.specs.declared.value.Value.{Value}
-use Rattle.pk_parse.specs.declared.declaration.ColumnDecl.{ColumnDecl}
-use Rattle.pk_engine.specs.Base.{Base, Table, with_table, put_rows}
+use Rattle.pk_values.specs.declared.changes.Changes.{Changes}
+use Rattle.pk_schema.specs.Shapes.{Shape}
+use Rattle.pk_exec.specs.Entries.{Entry}
+use Rattle.pk_engine.specs.Base.{Base, Table, with_table, without_table, change_table}
 
--- what a commit did: it made a table with these columns, or put rows into tables, each named
+-- what a commit did: it made a table of this shape, dropped one, or changed rows of tables, each named
 pub data Commit : Type 0 where
-  Made : List ℕ → List ColumnDecl → Commit
-  Changed : List (List ℕ × List Placed) → Commit
-
--- a row as a transaction sees it: one of the base, one of the base that it has changed, or a new one
-pub data Entry : Type 0 where
-  Kept : ℕ → List Value → Entry
-  Touched : ℕ → List Value → Entry
-  New : List Value → Entry
+  Made : List ℕ → Shape → Commit
+  Dropped : List ℕ → Commit
+  Changed : List (List ℕ × Changes) → Commit
 
 -- an open transaction: its session, how many commits there were when it began, and what it sees of each table
 pub record Transaction : Type 0 where
@@ -29,17 +24,18 @@ pub record State : Type 0 where
   pub session : List ℕ
 
 -- a new table has no row, and its next id is 1
-abbrev pub made_table : List ℕ → List ColumnDecl → Table
-made_table name columns = record { name = name; columns = columns; next = 1; rows = [] }
+abbrev pub made_table : List ℕ → Shape → Table
+made_table name shape = record { name = name; shape = shape; next = 1; rows = [] }
 
-abbrev pub put_all : List (List ℕ × List Placed) → List Table → List Table
-put_all [] tables = tables
-put_all (c ∷ cs) tables = put_all cs (put_rows c.0 c.1 tables)
+abbrev pub change_all : List (List ℕ × Changes) → List Table → List Table
+change_all [] tables = tables
+change_all (c ∷ cs) tables = change_all cs (change_table c.0 c.1 tables)
 
 -- the tables after a commit
 abbrev pub tables_after : Commit → List Table → List Table
-tables_after (Made name columns) tables = with_table (made_table name columns) tables
-tables_after (Changed changes) tables = put_all changes tables
+tables_after (Made name shape) tables = with_table (made_table name shape) tables
+tables_after (Dropped name) tables = without_table name tables
+tables_after (Changed changes) tables = change_all changes tables
 
 -- the base after a commit
 abbrev pub committed : Base → Commit → Base

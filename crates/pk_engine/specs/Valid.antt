@@ -1,25 +1,38 @@
-use Rattle.std.specs.Prelude.{ℕ, ◌≡◌, ◌≤◌, ◌+◌, List, [], ◌∷◌, length, All}
-use Rattle.pk_values.specs.declared.placed.Placed.{Placed}
+use Rattle.std.specs.Prelude.{◌≤◌, Bool, true, length, All, IsTrue}
+use Rattle.std.specs.List.{list_all}
+use Rattle.pk_values.specs.Name.{is_name}
 use Rattle.pk_parse.specs.declared.statement.Statement.{Statement}
-use Rattle.pk_engine.specs.Base.{Table, Base, IsInNameOrder}
+use Rattle.pk_parse.specs.declared.statement.Statement.TheVariants.{Create}
+use Rattle.pk_parse.specs.Declarations.{names_in}
+use Rattle.pk_parse.specs.Given.{texts_are_utf8, declares_plain}
+use Rattle.pk_schema.specs.Shapes.{IsShape}
+use Rattle.pk_schema.specs.Admits.{Admits}
+use Rattle.pk_engine.specs.Base.{Table, Base, IsInNameOrder, row_count}
+use Rattle.pk_engine.specs.Rows.{IdsRise}
+use Rattle.pk_engine.specs.Limits.{most_tables, most_rows, most_ids}
 use Rattle.pk_engine.specs.State.{State, current}
 use Rattle.pk_engine.specs.Answer.{answer}
 
--- each id is above those before it, none is below the least, and all are below the next
-abbrev pub IdsRise : ℕ → List Placed → ℕ → Type 0
-IdsRise least [] next = least ≤ next
-IdsRise least (p ∷ ps) next = (least ≤ p.id) × IdsRise (p.id + 1) ps next
-
--- a table whose ids rise from 1 on and stay below its next one, and whose rows are as wide as it has columns
+-- a table whose ids rise from 1 on and stay below its next one, and whose rows its schema admits
 pub record IsValidTable (t : Table) : Type 0 where
+  pub shape : IsShape t.shape
   pub ids : IdsRise 1 t.rows t.next
-  pub widths : All (λ p. length p.row ≡ length t.columns) t.rows
+  pub rows : All (λ p. Admits t.shape p.row) t.rows
+  pub next : t.next ≤ most_ids
 
--- a base of valid tables in the order of their names
+-- a base of valid tables in the order of their names, within the limits
 pub record IsValid (b : Base) : Type 0 where
   pub names : IsInNameOrder b.tables
   pub tables : All IsValidTable b.tables
+  pub few_tables : length b.tables ≤ most_tables
+  pub few_rows : row_count b ≤ most_rows
+  pub few_commits : b.commit ≤ most_ids
 
--- every answer over a valid base leaves a valid base
+-- the names that a statement declares are names, as every `Name` is by its type
+abbrev pub names_are_names : Statement → Bool
+names_are_names (Create d) = list_all is_name (names_in d)
+names_are_names _ = true
+
+-- every answer to what parsing gives leaves a valid base
 abbrev pub AnswersKeepValid : Type 0
-AnswersKeepValid = (st : State) (s : Statement) → IsValid (current st) → IsValid (current (answer st s).next)
+AnswersKeepValid = (st : State) (s : Statement) → IsTrue (declares_plain s) → IsTrue (texts_are_utf8 s) → IsTrue (names_are_names s) → IsValid (current st) → IsValid (current (answer st s).next)

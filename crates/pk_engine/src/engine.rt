@@ -3,11 +3,13 @@ ghost use Rattle.std.specs.Prelude.{◌≡◌, IsTrue, IfOk, vec_len};
 use crate::table::Stored;
 use pk_parse::Statement;
 use pk_report::Reply;
-use pk_values::{Memory, Name};
+use pk_values::{Memory, Name, Refusal};
 use std::alloc::Global;
 
 mod create;
-mod insert;
+mod drop_table;
+mod edit;
+mod limits;
 mod select;
 
 /// The base, and the answers to statements over it.
@@ -23,6 +25,7 @@ pub struct Engine {
 impl Engine {
     ghost use Rattle.std.specs.List.Sorted.{IsSearchInRange};
     ghost use Rattle.std.specs.Option.{option_map};
+    ghost use Rattle.pk_parse.specs.Given.{declares_plain, texts_are_utf8};
     ghost use Rattle.pk_engine.specs.Base.{empty_base, row_count, IsInNameOrder};
     ghost use Rattle.pk_engine.specs.Place.{IsPlaceOf};
     ghost use Rattle.pk_engine.specs.State.{State, started, current};
@@ -31,7 +34,7 @@ impl Engine {
     ghost use Rattle.pk_engine.specs.Stands.{StandsFor, Replies, Moves};
 
     /// The engine of the empty base.
-    #[tactic(auto, using(crate::proofs::OrderLemmas::order_empty), unfolding(crate::specs::Stands::StandsFor, crate::specs::State::current, crate::specs::State::after))]
+    #[tactic(auto, using(crate::proofs::ValidLemmas::empty_base_valid), unfolding(crate::specs::Stands::StandsFor, crate::specs::State::current, crate::specs::State::after))]
     pub fn empty(alloc: Global) -> Engine
         ensures { StandsFor result (started empty_base) }
     {
@@ -43,23 +46,26 @@ impl Engine {
         }
     }
 
-    /// Answers a statement that is one of those answered yet. A refusal is a reply, and leaves the base
-    /// as it was. After an `Err` nothing is claimed of the engine.
-    #[tactic(auto, unfolding(crate::specs::Answer::answer, crate::specs::Answer::refusals, crate::specs::Answer::done, crate::specs::Answer::is_answered))]
+    /// Answers a statement that is one of those answered yet. What it declares is plain and its texts are
+    /// UTF-8, as parsing gives them. A refusal is a reply, and leaves the base as it was. After an `Err`
+    /// nothing is claimed of the engine.
+    #[tactic(auto, unfolding(crate::specs::Answer::answer, crate::specs::Answer::is_answered))]
     pub fn step(&mut self, statement: &Statement) -> Result<Reply, Memory>
         requires answered { IsTrue (is_answered statement.now) }
+        requires plain { IsTrue (declares_plain statement.now) }
+        requires texts { IsTrue (texts_are_utf8 statement.now) }
         requires stands { (st : State) × StandsFor self.old st }
         ensures reply { IfOk result (λ r. Replies (λ st. answer st statement.now) self.old r) }
         ensures next { IfOk result (λ _. Moves (λ st. answer st statement.now) self.old self.new) }
     {
         match statement {
             Statement::Create(declared) => self.create(declared),
+            Statement::Drop { table } => self.drop_table(table),
             Statement::Insert(insert) => self.insert(insert),
+            Statement::Update(update) => self.update(update),
+            Statement::Delete(delete) => self.delete(delete),
             Statement::Select(select) => self.select(select),
-            Statement::Drop { .. }
-            | Statement::Update(_)
-            | Statement::Delete(_)
-            | Statement::Begin
+            Statement::Begin
             | Statement::Commit
             | Statement::Rollback
             | Statement::Session { .. }
@@ -95,14 +101,13 @@ impl Engine {
     {
         self.tables.binary_search_by(|table| table.cmp_name(name))
     }
+}
 
-    // The table of this name.
-    fn table(&self, name: &Name) -> Option<&Stored>
-        ensures { (st : State) → StandsFor self.now st → option_map (λ t. t.now) result ≡ table_of st name.now }
-    {
-        match self.place_of(name) {
-            Ok(place) => Some(&self.tables[place]),
-            Err(_) => None,
-        }
-    }
+// The reply where no table has the name.
+fn no_table(name: &Name) -> Result<Reply, Memory>
+    ensures { IfOk result (λ r. r ≡ Reply.Refused (Refusal.NoTable name.now)) }
+{
+    Ok(Reply::Refused(Refusal::NoTable {
+        table: name.copy()?,
+    }))
 }

@@ -4,14 +4,18 @@
 #![tactic(auto)]
 
 mod engine;
-mod faults;
-mod insertion;
 mod laws;
-mod named;
+mod outcome;
+mod rows;
 mod table;
 
 pub use engine::Engine;
-pub use laws::answers_keep_bases_valid;
+pub use laws::{
+    answers_keep_bases_valid, deletes_leave_the_rest, entries_are_committed, inserts_add_rows,
+    refusals_change_nothing, rows_are_put_in_order, selects_change_nothing,
+    selects_tell_their_rows, set_rows_keep_other_columns, statements_leave_other_tables,
+    tables_are_made_and_dropped, updates_set_rows,
+};
 
 #[cfg(test)]
 mod tests;

@@ -1,51 +1,62 @@
-ghost use Rattle.std.specs.Prelude.{◌≡◌, ◌≤◌, [], ◌∷◌, length, map, IfOk, OnOk};
-ghost use Rattle.pk_values.specs.declared.row.TheConstants.{MOST_COLUMNS};
+ghost use Rattle.std.specs.Prelude.{◌≡◌, ◌≤◌, length, map, filter, nat_le, IfOk, OnOk, IsTrue, ◌&&◌};
+ghost use Rattle.std.specs.List.{list_all, list_any};
 
-use crate::insertion::{Outcome, insertion};
-use pk_parse::{ColumnDecl, Insert};
-use pk_values::{Items, Memory, Name, Placed, Row, Value};
+use crate::outcome::Outcome;
+use crate::rows::{replace, take_out};
+use pk_exec::{ExecErr, InsertErr, ListView, Selected, Work};
+use pk_parse::{Delete, Insert, Select, Update};
+use pk_schema::Schema;
+use pk_values::{Changes, Items, Memory, Name, Placed};
 use std::alloc::Global;
 use std::cmp::Ordering;
 use std::marker::Model;
 
-/// A table of the base, of at most as many columns as a row has values. Contracts see it as the
-/// record of its parts.
+// The number of the one table that the work of a statement is about.
+const TABLE: u32 = 1;
+
+/// A table of the base. Contracts see it as the record of its parts.
 #[derive(Debug, Drop)]
 pub struct Stored {
     name: Name,
-    columns: Items<ColumnDecl>,
+    schema: Schema,
     next: u64,
     rows: Vec<Placed>,
 }
 
 impl Model for Stored {
-    ghost use Rattle.std.specs.Prelude.{length, ◌≤◌};
-    ghost use Rattle.pk_values.specs.declared.row.TheConstants.{MOST_COLUMNS};
     ghost use Rattle.pk_engine.specs.Base.{Table};
 
     ghost Value = { Table };
 
-    ghost view = { λ t. record { name = t.name; columns = t.columns; next = t.next; rows = t.rows.items } };
-
-    ghost invariant = { λ t. length t.columns ≤ MOST_COLUMNS };
+    ghost view = { λ t. record { name = t.name; shape = t.schema; next = t.next; rows = t.rows.items } };
 }
 
 impl Stored {
     ghost use Rattle.std.specs.Ordering.{nat_cmp};
     ghost use Rattle.std.specs.Cmp.Lexicographic.{slice_cmp};
-    ghost use Rattle.pk_engine.specs.Base.{with_rows};
+    ghost use Rattle.pk_values.specs.declared.placed.Placed.{Placed};
+    ghost use Rattle.pk_parse.specs.Given.{has_utf8, cond_has_utf8};
+    ghost use Rattle.pk_bind.specs.Conditions.{cond_asked};
+    ghost use Rattle.pk_bind.specs.Select.{select_refusals};
+    ghost use Rattle.pk_exec.specs.Answers.{Answers};
+    ghost use Rattle.pk_exec.specs.Edits.{taken};
+    ghost use Rattle.pk_exec.specs.Refusals.{work_insert_refusals, work_update_refusals, work_delete_refusals};
+    ghost use Rattle.pk_exec.specs.Works.{Covers, Fits, entries_of};
+    ghost use Rattle.pk_engine.specs.Base.{with_row, with_rows, changed_by};
+    ghost use Rattle.pk_engine.specs.Rows.{IdsRise, IdsAscend};
     ghost use Rattle.pk_engine.specs.State.{made_table};
-    ghost use Rattle.pk_engine.specs.Insert.{insert_faults, new_rows, placed_from};
-    ghost use Rattle.pk_engine.specs.Insertion.{IsDecided};
+    ghost use Rattle.pk_engine.specs.Valid.{IsValidTable};
+    ghost use Rattle.pk_engine.specs.Edits.{entries_in, changes_in, insert_entries, update_entries, delete_entries};
+    ghost use Rattle.pk_engine.specs.Select.{found};
+    ghost use Rattle.pk_engine.specs.Outcome.{IsDone};
 
     /// A new table, without a row.
-    pub fn make(alloc: Global, name: Name, columns: Items<ColumnDecl>) -> Stored
-        requires { length columns ≤ MOST_COLUMNS }
-        ensures { result ≡ made_table name columns }
+    pub fn make(alloc: Global, name: Name, schema: Schema) -> Stored
+        ensures { result ≡ made_table name schema }
     {
         Stored {
             name,
-            columns,
+            schema,
             next: 1,
             rows: Vec::new(alloc),
         }
@@ -58,70 +69,135 @@ impl Stored {
         self.name.as_slice().cmp(name.as_slice())
     }
 
-    /// How many columns the table has.
-    pub fn width(&self) -> usize
-        ensures { result ≡ length self.now.columns }
+    /// How many rows the table has.
+    pub fn row_count(&self) -> u64
+        ensures { result ≡ length self.now.rows }
     {
-        self.columns.as_slice().len()
+        self.rows.len() as u64
     }
 
-    /// The names of the columns, in their order.
-    pub fn header(&self) -> Result<Items<Name>, Memory>
-        ensures { IfOk result (λ header. header ≡ map (λ c. c.name) self.now.columns) }
+    /// The id that the next new row gets.
+    pub fn next(&self) -> u64
+        ensures { result ≡ self.now.next }
     {
-        let mut header = Vec::with_capacity(*self.rows.allocator(), self.width())?;
-        for column in self.columns.as_slice() {
-            header.push(column.name.copy()?)?;
+        self.next
+    }
+
+    /// How many of the rows that are put are new.
+    pub fn added(&self, changes: &Changes) -> u64
+        ensures { result ≡ length (filter (λ (p : Placed). nat_le self.now.next p.id) changes.now.put) }
+    {
+        let next = self.next;
+        let put = changes.put.as_slice();
+        put.iter().filter(|placed| next <= placed.id).count() as u64
+    }
+
+    /// What an INSERT makes of the rows.
+    pub fn insert(&self, insert: &Insert) -> Result<Outcome, Memory>
+        requires valid { IsValidTable self.now }
+        requires texts { IsTrue (list_all (list_all has_utf8) insert.now.rows) }
+        ensures { IfOk result (λ done. IsDone (work_insert_refusals self.now.shape 0 insert.now) (length insert.now.rows) (changes_in self.now (insert_entries self.now insert.now)) done) }
+    {
+        let mut work = Work::new(*self.rows.allocator());
+        match work.insert(&self.schema, TABLE, insert) {
+            Ok(n) => self.done(&work, n),
+            Err(InsertErr::Refused(refusal)) => Ok(Outcome::Refused(refusal)),
+            Err(InsertErr::Memory) => Err(Memory),
         }
-        Ok(Items::from_vec(header))
     }
 
-    /// The values of all rows, in their order.
-    pub fn rows(&self) -> Result<Items<Items<Value>>, Memory>
-        ensures { IfOk result (λ rows. rows ≡ map (λ p. p.row) self.now.rows) }
+    /// What an UPDATE makes of the rows.
+    pub fn update(&self, update: &Update) -> Result<Outcome, Memory>
+        requires valid { IsValidTable self.now }
+        requires texts { IsTrue (list_all (λ s. has_utf8 s.value) update.now.sets && cond_has_utf8 update.now.cond) }
+        ensures { IfOk result (λ done. IsDone (work_update_refusals self.now.shape 0 self.now.rows (entries_in self.now) update.now) (length (taken (cond_asked self.now.shape.columns update.now.cond) (entries_in self.now))) (changes_in self.now (update_entries self.now update.now)) done) }
     {
-        let alloc = *self.rows.allocator();
-        let mut rows = Vec::with_capacity(alloc, self.rows.len())?;
-        for placed in &self.rows {
-            rows.push(values_of(&placed.row)?)?;
+        let mut work = Work::new(*self.rows.allocator());
+        let mut view = ListView::new(self.rows.as_slice());
+        match work.update(&self.schema, TABLE, &mut view, update) {
+            Ok(n) => self.done(&work, n),
+            Err(ExecErr::Refused(refusal)) => Ok(Outcome::Refused(refusal)),
+            Err(ExecErr::Disk | ExecErr::Changed | ExecErr::Memory) => Err(Memory),
         }
-        Ok(Items::from_vec(rows))
     }
 
-    /// The rows that an INSERT puts, or the first refusal that stands.
-    pub fn insertion(&self, insert: &Insert) -> Result<Outcome, Memory>
-        ensures { IfOk result (λ done. IsDecided (insert_faults self.now.columns insert.now) (new_rows self.now.columns insert.now) done) }
+    /// What a DELETE makes of the rows.
+    pub fn delete(&self, delete: &Delete) -> Result<Outcome, Memory>
+        requires valid { IsValidTable self.now }
+        requires texts { IsTrue (cond_has_utf8 delete.now.cond) }
+        ensures { IfOk result (λ done. IsDone (work_delete_refusals self.now.shape 0 self.now.rows (entries_in self.now) delete.now) (length (taken (cond_asked self.now.shape.columns delete.now.cond) (entries_in self.now))) (changes_in self.now (delete_entries self.now delete.now)) done) }
     {
-        insertion(*self.rows.allocator(), self.columns.as_slice(), insert)
+        let mut work = Work::new(*self.rows.allocator());
+        let mut view = ListView::new(self.rows.as_slice());
+        match work.delete(&self.schema, TABLE, &mut view, delete) {
+            Ok(n) => self.done(&work, n),
+            Err(ExecErr::Refused(refusal)) => Ok(Outcome::Refused(refusal)),
+            Err(ExecErr::Disk | ExecErr::Changed | ExecErr::Memory) => Err(Memory),
+        }
     }
 
-    /// Puts the rows at the end, each under the next id.
-    pub fn put(&mut self, rows: Items<Row>) -> Result<(), Memory>
-        ensures { OnOk result (self.new ≡ with_rows (placed_from self.old.next rows) self.old) }
+    // The changes of a statement that took so many rows.
+    fn done(&self, work: &Work, n: u64) -> Result<Outcome, Memory>
+        requires valid { IsValidTable self.now }
+        requires covers { Covers work.now TABLE self.now.rows }
+        ensures { IfOk result (λ done. done ≡ Outcome.Done n (changes_in self.now (entries_of work.now TABLE self.now.rows))) }
     {
-        for row in rows.into_vec() {
-            self.put_row(row)?;
+        let changes = work.changes(TABLE, self.next)?;
+        Ok(Outcome::Done { n, changes })
+    }
+
+    /// What a SELECT finds, or the first refusal that stands.
+    pub fn select(&self, select: &Select) -> Result<Selected, ExecErr>
+        requires valid { IsValidTable self.now }
+        requires texts { IsTrue (cond_has_utf8 select.now.cond) }
+        ensures { Answers (select_refusals self.now.shape select.now) (found self.now select.now) result }
+    {
+        let work = Work::new(*self.rows.allocator());
+        let mut view = ListView::new(self.rows.as_slice());
+        work.select(&self.schema, TABLE, &mut view, select)
+    }
+
+    /// Makes the changes. Rows that go are taken out in one walk, and only where there are any; each row
+    /// that is put costs a search at most.
+    #[tactic(auto, unfolding(crate::specs::Base::changed_by))]
+    pub fn change(&mut self, changes: Changes) -> Result<(), Memory>
+        requires rise { IdsRise 1 self.old.rows self.old.next }
+        requires gone { IdsAscend changes.gone }
+        ensures { OnOk result (self.new ≡ changed_by changes self.old) }
+    {
+        let Changes { gone, put } = changes;
+        take_out(&mut self.rows, gone.as_slice());
+        self.put_all(put)
+    }
+
+    // Puts the rows, one behind the other.
+    #[tactic(auto, using(crate::proofs::RowLemmas::row_rises), unfolding(crate::specs::Base::with_rows))]
+    fn put_all(&mut self, rows: Items<Placed>) -> Result<(), Memory>
+        requires { IdsRise 1 self.old.rows self.old.next }
+        ensures { OnOk result (self.new ≡ with_rows rows self.old) }
+    {
+        for placed in rows.into_vec() {
+            self.put_row(placed)?;
         }
         Ok(())
     }
 
-    // Puts one row at the end. A next id of 2^64 is answered as want of memory, as no machine holds
-    // so many rows.
-    fn put_row(&mut self, row: Row) -> Result<(), Memory>
-        ensures { OnOk result (self.new ≡ with_rows (record { id = self.old.next; row = row } ∷ []) self.old) }
+    // Puts a row in place of the one with its id where that is below the next one, and else at the end.
+    // A next id of 2^64 is answered as want of memory: the limit on ids lies far below.
+    #[tactic(auto, using(crate::proofs::RowLemmas::rise_ascends), unfolding(crate::specs::Base::with_row))]
+    fn put_row(&mut self, placed: Placed) -> Result<(), Memory>
+        requires { IdsRise 1 self.old.rows self.old.next }
+        ensures { OnOk result (self.new ≡ with_row self.old placed) }
     {
-        let Some(next) = self.next.checked_add(1) else {
+        if placed.id < self.next {
+            replace(&mut self.rows, placed);
+            return Ok(());
+        }
+        let Some(next) = placed.id.checked_add(1) else {
             return Err(Memory);
         };
-        self.rows.push(Placed { id: self.next, row })?;
+        self.rows.push(placed)?;
         self.next = next;
         Ok(())
     }
-}
-
-// The values of a row, in their order.
-fn values_of(row: &Row) -> Result<Items<Value>, Memory>
-    ensures { IfOk result (λ values. values ≡ row.now) }
-{
-    Ok(Items::from_vec(row.copy()?.into_values()))
 }

@@ -110,13 +110,21 @@ pub record RunsAtTheirEdges : Type 0 where
   pub counted : Tells (codes "CREATE TABLE t (a INTEGER, b INTEGER); INSERT INTO t VALUES (1); INSERT INTO t VALUES (1, 2, 3)") (codes "created t" ∷ codes "refused: 1 values for 2 columns" ∷ codes "refused: 3 values for 2 columns" ∷ [])
   pub zero : Tells (codes "CREATE TABLE t (a INTEGER); INSERT INTO t VALUES (0); SELECT * FROM t") (codes "created t" ∷ codes "inserted 1" ∷ codes "a" ∷ codes "0" ∷ codes "rows 1" ∷ [])
   pub fault_on_a_later_line : Tells (codes "SELECT *" ++ 10 ∷ codes "FROM $") (codes "refused: bad character on line 2" ∷ [])
-  pub unserved_first : Tells (codes "INSERT INTO u VALUES (1), (2)") (codes "refused: not a statement on line 1" ∷ [])
+  pub unserved_first : Tells (codes "SHOW CREATE TABLE u") (codes "refused: not a statement on line 1" ∷ [])
   pub twice_named : Tells (codes "CREATE TABLE t (a INTEGER, b INTEGER, a INTEGER)") (codes "refused: column a twice" ∷ [])
   pub past_64_bits : Tells (codes "CREATE TABLE t (a INTEGER); INSERT INTO t VALUES (9223372036854775808); INSERT INTO t VALUES (9223372036854775807); SELECT * FROM t") (codes "created t" ∷ codes "refused: number outside 64 bits" ∷ codes "inserted 1" ∷ codes "a" ∷ codes "9223372036854775807" ∷ codes "rows 1" ∷ [])
   pub ordered : Tells (codes "CREATE TABLE b (x INTEGER); CREATE TABLE a (y INTEGER); INSERT INTO b VALUES (1); INSERT INTO b VALUES (2); SELECT * FROM b; SELECT * FROM a") (codes "created b" ∷ codes "created a" ∷ codes "inserted 1" ∷ codes "inserted 1" ∷ codes "x" ∷ codes "1" ∷ codes "2" ∷ codes "rows 2" ∷ codes "y" ∷ codes "rows 0" ∷ [])
   pub unclosed : Tells (codes "INSERT INTO t VALUES ('abc") (codes "refused: unclosed text on line 1" ∷ [])
   pub listed : Tells (codes "CREATE TABLE t (a INT, s VARCHAR(3)); INSERT INTO t (s) VALUES ('a''b'); INSERT INTO t (s) VALUES ('abcd'); SELECT * FROM t") (codes "created t" ∷ codes "inserted 1" ∷ codes "refused: text of 4 bytes for column s, at most 3" ∷ codes "a|s" ∷ codes "NULL|'a''b'" ∷ codes "rows 1" ∷ [])
   pub unfinished : Tells (codes "SELECT * FROM t" ++ 10 ∷ codes ";" ++ 10 ∷ codes "SELECT *") (codes "refused: no table t" ∷ codes "refused: not a statement on line 3" ∷ [])
+
+-- edits: tuples that tie, every row set, no row left, no table left, a name one byte too long
+pub record EditsAtTheirEdges : Type 0 where
+  pub ordered : Tells (codes "CREATE TABLE t (a INT, b INT); INSERT INTO t VALUES (2, 1), (1, 2), (2, 3), (NULL, 4); SELECT b FROM t ORDER BY a DESC") (codes "created t" ∷ codes "inserted 4" ∷ codes "b" ∷ codes "1" ∷ codes "3" ∷ codes "2" ∷ codes "4" ∷ codes "rows 4" ∷ [])
+  pub set : Tells (codes "CREATE TABLE t (a INT, b INT); INSERT INTO t VALUES (1, 1), (2, 2); UPDATE t SET b = NULL; SELECT * FROM t") (codes "created t" ∷ codes "inserted 2" ∷ codes "updated 2" ∷ codes "a|b" ∷ codes "1|NULL" ∷ codes "2|NULL" ∷ codes "rows 2" ∷ [])
+  pub emptied : Tells (codes "CREATE TABLE t (a INT); INSERT INTO t VALUES (1), (2); DELETE FROM t; DELETE FROM t; INSERT INTO t VALUES (3); SELECT COUNT(*) FROM t") (codes "created t" ∷ codes "inserted 2" ∷ codes "deleted 2" ∷ codes "deleted 0" ∷ codes "inserted 1" ∷ codes "count" ∷ codes "1" ∷ codes "rows 1" ∷ [])
+  pub dropped : Tells (codes "CREATE TABLE t (a INT); DROP TABLE t; SELECT * FROM t") (codes "created t" ∷ codes "dropped t" ∷ codes "refused: no table t" ∷ [])
+  pub long_name : Tells (codes "CREATE TABLE t (a234567890123456789012345678901 INT)") (codes "refused: limit name 30" ∷ [])
 
 -- the definitions at their edges
 pub record EdgesAreTold : Type 0 where
@@ -131,3 +139,4 @@ pub record EdgesAreTold : Type 0 where
   pub words : WordsAtTheirEdges
   pub refusals : RefusalsAtTheirEdges
   pub runs : RunsAtTheirEdges
+  pub edits : EditsAtTheirEdges

@@ -1,20 +1,29 @@
-use Rattle.std.specs.Prelude.{Bool, true, false, not, ◌&&◌, ◌==◌, length}
+use Rattle.std.specs.Prelude.{Bool, true, false, not, ◌&&◌, List, [], ◌∷◌}
 use Rattle.std.specs.List.{list_all}
 use Rattle.pk_parse.specs.declared.declaration.ColumnDecl.{ColumnDecl}
 use Rattle.pk_parse.specs.declared.declaration.TableDecl.{TableDecl}
 use Rattle.pk_parse.specs.declared.statement.Statement.{Statement}
-use Rattle.pk_parse.specs.declared.statement.Statement.TheVariants.{Create, Insert as InsertInto, Select as SelectFrom}
-use Rattle.pk_parse.specs.Declarations.{names_are_short}
-use Rattle.pk_engine.specs.Answer.{is_answered_table, is_all}
+use Rattle.pk_parse.specs.declared.statement.Statement.TheVariants.{Create, Drop, Insert as InsertInto, Update as UpdateIn, Delete as DeleteFrom, Select as SelectFrom}
 
 -- no column refuses null
 abbrev pub admits_null : TableDecl → Bool
 admits_null d = list_all (λ (c : ColumnDecl). not c.not_null) d.columns
 
--- whether a statement is answered yet: a table whose names are short, of few columns that may all hold null, without keys; an
--- INSERT of one tuple; a SELECT of all columns and rows
+-- a list of nothing
+abbrev pub is_empty : {X : Type 0} → List X → Bool
+is_empty [] = true
+is_empty (x ∷ xs) = false
+
+-- a table without keys, whose columns may all hold null
+abbrev pub is_served_table : TableDecl → Bool
+is_served_table d = is_empty d.keys && admits_null d
+
+-- whether a statement is answered yet: tables without keys are made and dropped, and their rows put, changed, taken out and shown
 unfoldable pub is_served : Statement → Bool
-is_served (Create d) = is_answered_table d && names_are_short d && admits_null d
-is_served (InsertInto i) = length i.rows == 1
-is_served (SelectFrom s) = is_all s
+is_served (Create d) = is_served_table d
+is_served (Drop name) = true
+is_served (InsertInto i) = true
+is_served (UpdateIn u) = true
+is_served (DeleteFrom d) = true
+is_served (SelectFrom s) = true
 is_served _ = false

@@ -1,6 +1,6 @@
 //! What holds of every run, stated in `specs/`: each function is the proof of its clause.
 
-ghost use Rattle.pk_run.specs.Laws.{RunsInHalves, RefusalsChangeNothing, SelectsChangeNothing, InsertsStandLast, InsertsLeaveOthers, FrontsAreFronts};
+ghost use Rattle.pk_run.specs.Laws.{RunsInHalves, RefusalsChangeNothing, FrontsAreFronts};
 ghost use Rattle.pk_run.specs.Example.{ExampleIsTold};
 ghost use Rattle.pk_run.specs.Edges.{EdgesAreTold};
 
@@ -12,17 +12,6 @@ pub fn runs_in_halves()
 /// A piece that is refused changes nothing.
 pub fn refusals_change_nothing()
     ensures { RefusalsChangeNothing }
-{}
-
-/// A SELECT changes nothing.
-pub fn selects_change_nothing()
-    ensures { SelectsChangeNothing }
-{}
-
-/// What an INSERT puts stands last in the next SELECT of its table, and other tables are as before.
-pub fn inserts_stand_last()
-    ensures last { InsertsStandLast }
-    ensures others { InsertsLeaveOthers }
 {}
 
 /// What is called a front of the replies is one.

@@ -12,8 +12,7 @@ mod status;
 mod top;
 
 pub use laws::{
-    edges_are_told, example_is_told, fronts_are_fronts, inserts_stand_last,
-    refusals_change_nothing, runs_in_halves, selects_change_nothing,
+    edges_are_told, example_is_told, fronts_are_fronts, refusals_change_nothing, runs_in_halves,
 };
 pub use serving::served;
 pub use status::Status;

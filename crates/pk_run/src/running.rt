@@ -1,5 +1,6 @@
-ghost use Rattle.std.specs.Prelude.{◌≡◌, ◌≤◌, IsTrue, IfOk, IsErrOf};
+ghost use Rattle.std.specs.Prelude.{◌≡◌, ◌≤◌, All, IsTrue, IfOk, IsErrOf};
 ghost use Rattle.pk_world.specs.Rose.{Rose};
+ghost use Rattle.pk_lex.specs.Tokens.{is_lexed};
 ghost use Rattle.pk_engine.specs.State.{State};
 ghost use Rattle.pk_engine.specs.Stands.{StandsFor};
 ghost use Rattle.pk_report.specs.Text.{text};
@@ -52,7 +53,8 @@ pub fn run_pieces<W: Station>(
     pieces: &[Piece],
     station: &mut W,
 ) -> Result<bool, RunErr>
-    requires { (st : State) × StandsFor engine.old st }
+    requires stands { (st : State) × StandsFor engine.old st }
+    requires lexed { All (λ piece. IsTrue (is_lexed piece)) pieces.now }
     ensures whole { IfOk result (λ _. (st : State) → StandsFor engine.old st → Takes W.Station station.old station.new (told_by (run st pieces.now))) }
     ensures refused { IfOk result (λ refused. (st : State) → StandsFor engine.old st → refused ≡ has_refusal (run st pieces.now)) }
     ensures front { (st : State) → StandsFor engine.old st → TakesFront W.Station station.old station.new (told_by (run st pieces.now)) }
@@ -76,7 +78,8 @@ fn answer_and_tell<W: Station>(
     piece: &Piece,
     station: &mut W,
 ) -> Result<bool, RunErr>
-    requires { (st : State) × StandsFor engine.old st }
+    requires stands { (st : State) × StandsFor engine.old st }
+    requires lexed { IsTrue (is_lexed piece.now) }
     ensures told { IfOk result (λ _. (st : State) → StandsFor engine.old st → Takes W.Station station.old station.new (text (step st piece.now).reply)) }
     ensures refused { IfOk result (λ refused. (st : State) → StandsFor engine.old st → refused ≡ is_refusal (step st piece.now).reply) }
     ensures next { IfOk result (λ _. (st : State) → StandsFor engine.old st → StandsFor engine.new (step st piece.now).next) }
@@ -95,7 +98,8 @@ fn answer_and_tell<W: Station>(
 // The reply to a piece. After an `Err` nothing is claimed of the engine.
 #[tactic(auto, using(crate::proofs::ServedIsAnswered::answered_when_served), unfolding(crate::specs::Told::step))]
 fn answer_piece(alloc: Global, engine: &mut Engine, piece: &Piece) -> Result<Reply, Memory>
-    requires { (st : State) × StandsFor engine.old st }
+    requires stands { (st : State) × StandsFor engine.old st }
+    requires lexed { IsTrue (is_lexed piece.now) }
     ensures reply { IfOk result (λ r. (st : State) → StandsFor engine.old st → r ≡ (step st piece.now).reply) }
     ensures next { IfOk result (λ _. (st : State) → StandsFor engine.old st → StandsFor engine.new (step st piece.now).next) }
 {

@@ -1,101 +1,100 @@
 //! CREATE TABLE.
 
-ghost use Rattle.std.specs.Prelude.{◌≡◌, IfOk, IsTrue, None};
-ghost use Rattle.pk_engine.specs.Answer.{is_answered_table};
-ghost use Rattle.pk_engine.specs.Create.{declared_twice};
+ghost use Rattle.std.specs.Prelude.{◌≡◌, ◌≤◌, vec_len, IfOk, IsTrue};
 
 use crate::engine::Engine;
-use crate::insertion::{copied_column, twice_refused};
-use crate::named::twice;
 use crate::table::Stored;
-use pk_parse::{ColumnDecl, TableDecl};
+use pk_parse::TableDecl;
 use pk_report::Reply;
-use pk_values::{Items, Memory, Name, Refusal};
-use std::alloc::Global;
+use pk_schema::{MakeErr, Schema};
+use pk_values::{Memory, Refusal};
 
 impl Engine {
+    ghost use Rattle.std.specs.Prelude.{[], ◌∷◌, ◌++◌, ◌<◌, length, Err};
+    ghost use Rattle.pk_engine.specs.Place.{IsPlaceOf};
+    ghost use Rattle.pk_parse.specs.Declarations.{is_plain};
+    ghost use Rattle.pk_schema.specs.Shapes.{shape_of};
+    ghost use Rattle.pk_schema.specs.Making.{schema_refusals};
     ghost use Rattle.pk_engine.specs.State.{State};
-    ghost use Rattle.pk_engine.specs.Refusing.{decided, first_some};
-    ghost use Rattle.pk_engine.specs.Create.{create_refusals, created, table_exists};
+    ghost use Rattle.pk_engine.specs.Refusing.{decided};
+    ghost use Rattle.pk_engine.specs.Limits.{most_tables, most_ids, tables_full, commits_full};
+    ghost use Rattle.pk_engine.specs.Create.{create_refusals, created};
     ghost use Rattle.pk_engine.specs.Stands.{StandsFor, Replies, Moves};
 
     // The answer to CREATE TABLE.
     pub(super) fn create(&mut self, declared: &TableDecl) -> Result<Reply, Memory>
-        requires answered { IsTrue (is_answered_table declared.now) }
+        requires plain { IsTrue (is_plain declared.now) }
         requires stands { (st : State) × StandsFor self.old st }
         ensures reply { IfOk result (λ r. Replies (λ st. decided st (create_refusals st declared.now) (created st declared.now)) self.old r) }
         ensures next { IfOk result (λ _. Moves (λ st. decided st (create_refusals st declared.now) (created st declared.now)) self.old self.new) }
     {
-        match self.create_refusal(declared)? {
-            Some(refusal) => Ok(Reply::Refused(refusal)),
-            None => self.make_table(declared),
-        }
-    }
-
-    // The first refusal that stands.
-    fn create_refusal(&self, declared: &TableDecl) -> Result<Option<Refusal>, Memory>
-        requires { IsTrue (is_answered_table declared.now) }
-        ensures { IfOk result (λ r. (st : State) → StandsFor self.now st → r ≡ first_some (create_refusals st declared.now)) }
-    {
-        if let Some(refusal) = self.table_exists(&declared.table)? {
-            return Ok(Some(refusal));
-        }
-        declared_twice(declared)
-    }
-
-    // The base has a table of this name.
-    #[tactic(auto, unfolding(crate::specs::Create::table_exists))]
-    fn table_exists(&self, name: &Name) -> Result<Option<Refusal>, Memory>
-        ensures { IfOk result (λ r. (st : State) → StandsFor self.now st → r ≡ table_exists st name.now) }
-    {
-        match self.table(name) {
-            Some(_) => Ok(Some(Refusal::TableExists {
-                table: name.copy()?,
+        match self.place_of(&declared.table) {
+            Ok(_) => Ok(Reply::Refused(Refusal::TableExists {
+                table: declared.table.copy()?,
             })),
-            None => Ok(None),
+            Err(place) => self.create_at(place, declared),
         }
     }
 
-    // Makes the table, where nothing refuses it. A commit number of 2^64 is answered as want of
-    // memory, as no machine lives through so many.
-    #[tactic(auto, using(crate::proofs::StandsLemmas::create_absent))]
-    fn make_table(&mut self, declared: &TableDecl) -> Result<Reply, Memory>
-        requires answered { IsTrue (is_answered_table declared.now) }
-        requires unrefused { (st : State) × StandsFor self.old st × (first_some (create_refusals st declared.now) ≡ None) }
+    // The answer where no table has the name, and this is the place for it.
+    fn create_at(&mut self, place: usize, declared: &TableDecl) -> Result<Reply, Memory>
+        requires plain { IsTrue (is_plain declared.now) }
+        requires within { place ≤ vec_len self.old.tables }
+        requires free { IsPlaceOf declared.now.table self.old.tables.items (Err place) }
+        ensures reply { IfOk result (λ r. Replies (λ st. decided st (schema_refusals declared.now ++ (tables_full st ∷ commits_full st ∷ [])) (created st declared.now)) self.old r) }
+        ensures next { IfOk result (λ _. Moves (λ st. decided st (schema_refusals declared.now ++ (tables_full st ∷ commits_full st ∷ [])) (created st declared.now)) self.old self.new) }
+    {
+        match Schema::make(self.alloc, declared) {
+            Ok(schema) => self.make_table(place, declared, schema),
+            Err(MakeErr::Refused(refusal)) => Ok(Reply::Refused(refusal)),
+            Err(MakeErr::Memory) => Err(Memory),
+        }
+    }
+
+    // Makes the table, unless a limit of the base forbids it.
+    fn make_table(
+        &mut self,
+        place: usize,
+        declared: &TableDecl,
+        schema: Schema,
+    ) -> Result<Reply, Memory>
+        requires within { place ≤ vec_len self.old.tables }
+        requires free { IsPlaceOf declared.now.table self.old.tables.items (Err place) }
+        requires schema { schema ≡ shape_of declared.now }
+        ensures reply { IfOk result (λ r. Replies (λ st. decided st (tables_full st ∷ commits_full st ∷ []) (created st declared.now)) self.old r) }
+        ensures next { IfOk result (λ _. Moves (λ st. decided st (tables_full st ∷ commits_full st ∷ []) (created st declared.now)) self.old self.new) }
+    {
+        if let Some(refusal) = self.tables_full() {
+            return Ok(Reply::Refused(refusal));
+        }
+        if let Some(refusal) = self.commits_full() {
+            return Ok(Reply::Refused(refusal));
+        }
+        self.put_table(place, declared, schema)
+    }
+
+    // Puts the table at its place, where nothing refuses it.
+    fn put_table(
+        &mut self,
+        place: usize,
+        declared: &TableDecl,
+        schema: Schema,
+    ) -> Result<Reply, Memory>
+        requires within { place ≤ vec_len self.old.tables }
+        requires free { IsPlaceOf declared.now.table self.old.tables.items (Err place) }
+        requires schema { schema ≡ shape_of declared.now }
+        requires tables { length self.old.tables.items < most_tables }
+        requires commits { self.old.commit < most_ids }
         ensures reply { IfOk result (λ r. Replies (λ st. created st declared.now) self.old r) }
         ensures next { IfOk result (λ _. Moves (λ st. created st declared.now) self.old self.new) }
     {
-        let Some(commit) = self.commit.checked_add(1) else {
-            return Err(Memory);
-        };
-        let columns = copied_columns(self.alloc, declared.columns.as_slice())?;
-        let table = Stored::make(self.alloc, declared.table.copy()?, columns);
+        let _shape = schema.columns();
         let reply = Reply::Created {
             table: declared.table.copy()?,
         };
-        let place = self.place_of(&declared.table).unwrap_err();
+        let table = Stored::make(self.alloc, declared.table.copy()?, schema);
         self.tables.insert(place, table)?;
-        self.commit = commit;
+        self.commit += 1;
         Ok(reply)
     }
-}
-
-// A column is declared twice.
-#[tactic(auto, unfolding(crate::specs::Create::declared_twice))]
-fn declared_twice(declared: &TableDecl) -> Result<Option<Refusal>, Memory>
-    requires { IsTrue (is_answered_table declared.now) }
-    ensures { IfOk result (λ r. r ≡ declared_twice declared.now) }
-{
-    twice_refused(twice(declared.columns.as_slice()))
-}
-
-// Equal columns, in the same order.
-fn copied_columns(alloc: Global, columns: &[ColumnDecl]) -> Result<Items<ColumnDecl>, Memory>
-    ensures { IfOk result (λ copies. copies ≡ columns.now) }
-{
-    let mut copies = Vec::with_capacity(alloc, columns.len())?;
-    for column in columns {
-        copies.push(copied_column(column)?)?;
-    }
-    Ok(Items::from_vec(copies))
 }

@@ -1,62 +1,60 @@
 //! SELECT.
 
-ghost use Rattle.std.specs.Prelude.{◌≡◌, IfOk};
+ghost use Rattle.std.specs.Prelude.{◌≡◌, IfOk, IsTrue};
+ghost use Rattle.pk_engine.specs.Select.{told_as};
 
-use crate::engine::Engine;
-use pk_parse::Select;
+use crate::engine::{Engine, no_table};
+use pk_exec::{ExecErr, Selected};
+use pk_parse::{Select, What};
 use pk_report::Reply;
-use pk_values::{Items, Memory, Name, Refusal};
+use pk_values::Memory;
 
 impl Engine {
+    ghost use Rattle.std.specs.Prelude.{Ok};
+    ghost use Rattle.pk_parse.specs.Given.{cond_has_utf8};
+    ghost use Rattle.pk_bind.specs.Select.{select_refusals};
+    ghost use Rattle.pk_engine.specs.Place.{IsPlaceOf};
     ghost use Rattle.pk_engine.specs.State.{State};
-    ghost use Rattle.pk_engine.specs.Refusing.{decided, first_some};
-    ghost use Rattle.pk_engine.specs.Select.{select_refusals, selected, no_table};
-    ghost use Rattle.pk_engine.specs.Stands.{StandsFor, Replies, Moves};
+    ghost use Rattle.pk_engine.specs.Refusing.{about, decided};
+    ghost use Rattle.pk_engine.specs.Select.{selected_rows};
+    ghost use Rattle.pk_engine.specs.Stands.{StandsFor, Replies, Moves, RepliesAt};
 
     // The answer to SELECT.
     pub(super) fn select(&self, select: &Select) -> Result<Reply, Memory>
-        ensures reply { IfOk result (λ r. Replies (λ st. decided st (select_refusals st select.now) (selected st select.now)) self.now r) }
-        ensures next { Moves (λ st. decided st (select_refusals st select.now) (selected st select.now)) self.now self.now }
+        requires texts { IsTrue (cond_has_utf8 select.now.cond) }
+        requires stands { (st : State) × StandsFor self.now st }
+        ensures reply { IfOk result (λ r. Replies (λ st. about st select.now.table (λ t. decided st (select_refusals t.shape select.now) (selected_rows st t select.now))) self.now r) }
+        ensures next { Moves (λ st. about st select.now.table (λ t. decided st (select_refusals t.shape select.now) (selected_rows st t select.now))) self.now self.now }
     {
-        match self.select_refusal(select)? {
-            Some(refusal) => Ok(Reply::Refused(refusal)),
-            None => self.selected(select),
+        match self.place_of(&select.table) {
+            Ok(place) => self.select_at(place, select),
+            Err(_) => no_table(&select.table),
         }
     }
 
-    // The first refusal that stands.
-    fn select_refusal(&self, select: &Select) -> Result<Option<Refusal>, Memory>
-        ensures { IfOk result (λ r. (st : State) → StandsFor self.now st → r ≡ first_some (select_refusals st select.now)) }
+    fn select_at(&self, place: usize, select: &Select) -> Result<Reply, Memory>
+        requires texts { IsTrue (cond_has_utf8 select.now.cond) }
+        requires stands { (st : State) × StandsFor self.now st }
+        requires found { IsPlaceOf select.now.table self.now.tables.items (Ok place) }
+        ensures { IfOk result (λ r. RepliesAt place (λ st t. decided st (select_refusals t.shape select.now) (selected_rows st t select.now)) self.now r) }
     {
-        self.no_table(&select.table)
-    }
-
-    // The base has no table of this name.
-    #[tactic(auto, unfolding(crate::specs::Select::no_table))]
-    fn no_table(&self, name: &Name) -> Result<Option<Refusal>, Memory>
-        ensures { IfOk result (λ r. (st : State) → StandsFor self.now st → r ≡ no_table st name.now) }
-    {
-        match self.table(name) {
-            Some(_) => Ok(None),
-            None => Ok(Some(Refusal::NoTable {
-                table: name.copy()?,
-            })),
+        match self.tables[place].select(select) {
+            Ok(selected) => Ok(told_as(&select.what, selected)),
+            Err(ExecErr::Refused(refusal)) => Ok(Reply::Refused(refusal)),
+            Err(ExecErr::Disk | ExecErr::Changed | ExecErr::Memory) => Err(Memory),
         }
     }
+}
 
-    // The names of the columns and all rows. Of no table there are none of either.
-    fn selected(&self, select: &Select) -> Result<Reply, Memory>
-        ensures { IfOk result (λ r. Replies (λ st. selected st select.now) self.now r) }
-    {
-        match self.table(&select.table) {
-            Some(table) => Ok(Reply::Selected {
-                header: table.header()?,
-                rows: table.rows()?,
-            }),
-            None => Ok(Reply::Selected {
-                header: Items::from_vec(Vec::new(self.alloc)),
-                rows: Items::from_vec(Vec::new(self.alloc)),
-            }),
-        }
+// Rows with their header, or their number.
+fn told_as(what: &What, selected: Selected) -> Reply
+    ensures { result ≡ told_as what.now selected }
+{
+    let Selected { header, rows } = selected;
+    match what {
+        What::All | What::Columns(_) => Reply::Selected { header, rows },
+        What::Count => Reply::Count {
+            n: rows.as_slice().len() as u64,
+        },
     }
 }

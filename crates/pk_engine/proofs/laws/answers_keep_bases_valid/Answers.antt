@@ -1,4 +1,5 @@
-use Rattle.pk_engine.proofs.ValidLemmas.{empty_base_valid, answer_valid}
+use Rattle.pk_engine.proofs.ValidLemmas.{empty_base_valid}
+use Rattle.pk_engine.proofs.KeptLemmas.{answer_valid}
 use Rattle.pk_engine.proofs.laws.answers_keep_bases_valid.Goals as goal
 
 pub returns : goal.returns

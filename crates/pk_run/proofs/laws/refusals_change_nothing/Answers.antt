@@ -1,40 +1,63 @@
-use Rattle.std.proofs.Common.{◌≡◌, ℕ, Bool, true, false, Option, Some, None, Result, Ok, Err, refl, sym, ◌∙◌}
+use Rattle.std.proofs.Common.{◌≡◌, ℕ, Bool, true, false, List, Option, Some, None, Result, Ok, Err, refl, sym, ◌∙◌}
 use Rattle.std.specs.Prelude.{if◌then◌else◌}
 use Rattle.std.proofs.lemmas.Bool.{false≢true}
 use Rattle.pk_values.specs.declared.refusal.Refusal.{Refusal}
 use Rattle.pk_values.specs.declared.refusal.Refusal.TheVariants.{NotStatement}
+use Rattle.pk_values.specs.Refusals.{first_some}
 use Rattle.pk_parse.specs.declared.statement.Statement.{Statement}
-use Rattle.pk_parse.specs.declared.statement.Statement.TheVariants.{Create, Insert as InsertInto, Select as SelectFrom}
+use Rattle.pk_parse.specs.declared.statement.Statement.TheVariants.{Create, Drop, Insert as InsertInto, Update as UpdateIn, Delete as DeleteFrom, Select as SelectFrom}
+use Rattle.pk_parse.specs.declared.query.What.{What}
+use Rattle.pk_parse.specs.declared.query.What.TheVariants.{All, Columns, Count}
 use Rattle.pk_parse.specs.Parsed.{parsed}
+use Rattle.pk_parse.specs.declared.parsing.ParseErr.{ParseErr}
+use Rattle.pk_exec.specs.declared.selected.Selected.{Selected}
 use Rattle.pk_engine.specs.Base.{Table}
 use Rattle.pk_engine.specs.State.{State}
-use Rattle.pk_parse.specs.declared.parsing.ParseErr.{ParseErr}
-use Rattle.pk_engine.specs.Refusing.{Step, first_some, refused_or, table_of}
-use Rattle.pk_engine.specs.Select.{selected_of}
-use Rattle.pk_engine.specs.Answer.{refusals, done, answer}
+use Rattle.pk_engine.specs.Refusing.{Step, refused_or, decided, about, about_found, table_of}
+use Rattle.pk_bind.specs.Select.{select_refusals}
+use Rattle.pk_engine.specs.Create.{create_refusals, created}
+use Rattle.pk_engine.specs.Drop.{drop_refusals, dropped}
+use Rattle.pk_engine.specs.Edits.{insert_refusals, inserted, update_refusals, updated_rows, delete_refusals, deleted_rows}
+use Rattle.pk_engine.specs.Select.{told_as, found, selected_rows}
+use Rattle.pk_engine.specs.Answer.{answer}
 use Rattle.pk_run.specs.Served.{is_served}
 use Rattle.pk_run.specs.Told.{step, refused, answer_to, is_refusal}
 use Rattle.pk_run.proofs.laws.refusals_change_nothing.Goals as goal
 
 -- where what is done isn't a refusal, a refusal left the state
-left_by : (st : State) (refusal : Option Refusal) (done : Step) → is_refusal done.reply ≡ false → is_refusal (refused_or st refusal done).reply ≡ true → (refused_or st refusal done).next ≡ st
-left_by st (Some r) done fine h = refl
-left_by st None done fine h = absurd (false≢true (sym fine ∙ h))
+left_or : (st : State) (refusal : Option Refusal) (done : Step) → is_refusal done.reply ≡ false → is_refusal (refused_or st refusal done).reply ≡ true → (refused_or st refusal done).next ≡ st
+left_or st (Some r) done fine h = refl
+left_or st None done fine h = absurd (false≢true (sym fine ∙ h))
 
-no_refusal : (t : Option Table) → is_refusal (selected_of t) ≡ false
-no_refusal (Some t) = refl
-no_refusal None = refl
+left_by : (st : State) (refusals : List (Option Refusal)) (done : Step) → is_refusal done.reply ≡ false → is_refusal (decided st refusals done).reply ≡ true → (decided st refusals done).next ≡ st
+left_by st refusals done fine h = left_or st (first_some refusals) done fine h
 
-done_is_no_refusal : (st : State) (s : Statement) → is_refusal (done st s).reply ≡ false
-unfolding done
-done_is_no_refusal st (Create d) = refl
-done_is_no_refusal st (InsertInto i) = refl
-done_is_no_refusal st (SelectFrom s) = no_refusal (table_of st s.table)
-done_is_no_refusal st _ = refl
+left_found : (st : State) (name : List ℕ) (answer : Table → Step) (t : Option Table) → ((t : Table) → is_refusal (answer t).reply ≡ true → (answer t).next ≡ st)
+    → is_refusal (about_found st name answer t).reply ≡ true → (about_found st name answer t).next ≡ st
+left_found st name answer (Some t) left h = left t h
+left_found st name answer None left h = refl
+
+-- an answer about a table leaves the state where it does so for every table
+left_about : (st : State) (name : List ℕ) (answer : Table → Step) → ((t : Table) → is_refusal (answer t).reply ≡ true → (answer t).next ≡ st)
+    → is_refusal (about st name answer).reply ≡ true → (about st name answer).next ≡ st
+unfolding about
+left_about st name answer left h = left_found st name answer (table_of st name) left h
+
+no_refusal : (what : What) (rows : Selected) → is_refusal (told_as what rows) ≡ false
+no_refusal All rows = refl
+no_refusal (Columns names) rows = refl
+no_refusal Count rows = refl
 
 left_by_answer : (st : State) (s : Statement) → is_refusal (answer st s).reply ≡ true → (answer st s).next ≡ st
 unfolding answer
-left_by_answer st s h = left_by st (first_some (refusals st s)) (done st s) (done_is_no_refusal st s) h
+left_by_answer st (Create d) h = left_by st (create_refusals st d) (created st d) refl h
+left_by_answer st (Drop name) h = left_about st name (λ t. decided st (drop_refusals st t) (dropped st t)) (λ t. left_by st (drop_refusals st t) (dropped st t) refl) h
+left_by_answer st (InsertInto i) h = left_about st i.table (λ t. decided st (insert_refusals st t i) (inserted st t i)) (λ t. left_by st (insert_refusals st t i) (inserted st t i) refl) h
+left_by_answer st (UpdateIn u) h = left_about st u.table (λ t. decided st (update_refusals st t u) (updated_rows st t u)) (λ t. left_by st (update_refusals st t u) (updated_rows st t u) refl) h
+left_by_answer st (DeleteFrom d) h = left_about st d.table (λ t. decided st (delete_refusals st t d) (deleted_rows st t d)) (λ t. left_by st (delete_refusals st t d) (deleted_rows st t d) refl) h
+left_by_answer st (SelectFrom s) h =
+    left_about st s.table (λ t. decided st (select_refusals t.shape s) (selected_rows st t s)) (λ t. left_by st (select_refusals t.shape s) (selected_rows st t s) (no_refusal s.what (found t s))) h
+left_by_answer st _ h = refl
 
 left_by_choice : (st : State) (line : ℕ) (s : Statement) (served : Bool)
     → is_refusal (if served then answer st s else refused st (NotStatement line)).reply ≡ true

@@ -1,9 +1,16 @@
 use Rattle.std.proofs.Common.{◌≡◌, Bool, true, false, ◌||◌, List, ℕ, ◌+◌, drop, refl, sym, ◌∙◌, ap, subst}
 use Rattle.std.specs.Prelude.{IsTrue}
+use Rattle.pk_lex.specs.declared.piece.Piece.{Piece}
+use Rattle.pk_lex.specs.Tokens.{is_lexed}
 use Rattle.pk_run.specs.Told.{step, run, told_by, has_refusal}
 use Rattle.pk_run.proofs.Runs.{GoesOn, goes_on_more, front_of_more, told_from, refused_from, ok_is_no_fault}
 use Rattle.pk_run.proofs.running.run_pieces.Goals as goal
 use Rattle.pk_run.proofs.running.run_pieces.Goals.{then-refused, else-refused}
+
+-- each piece is one that lexing gives
+pub answer_and_tell-requires-clause-lexed : goal.answer_and_tell-requires-clause-lexed
+answer_and_tell-requires-clause-lexed g c =
+    subst (λ (p : Piece). IsTrue (is_lexed p)) (sym c.piece-item.is) (c.requires.lexed c.loop-piece.piece-index c.piece-item.result c.loop-piece-test.true)
 
 -- what was told before this piece, and a front of its reply
 pub returns-in_err-is_refused-clause-front : goal.returns-in_err-is_refused-clause-front

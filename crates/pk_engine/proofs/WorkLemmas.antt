@@ -1,0 +1,129 @@
+-- The work of a statement over a table: it has changed nothing before.
+use Rattle.std.proofs.Common.{◌≡◌, ℕ, List, Result, Ok, Err, IfOk, length, Option, None, sym, ap, subst, ◌∙◌}
+use Rattle.pk_values.specs.declared.memory.Memory.{Memory}
+use Rattle.pk_values.specs.declared.placed.Placed.{Placed}
+use Rattle.pk_values.specs.declared.refusal.Refusal.{Refusal}
+use Rattle.pk_values.specs.Refusals.{first_some}
+use Rattle.pk_parse.specs.declared.edit.Update.{Update}
+use Rattle.pk_parse.specs.declared.edit.Delete.{Delete}
+use Rattle.pk_parse.specs.declared.query.Select.{Select}
+use Rattle.pk_parse.specs.Declarations.{names_of}
+use Rattle.pk_schema.specs.Shapes.{Shape}
+use Rattle.pk_bind.specs.Update.{edit_of}
+use Rattle.pk_bind.specs.Conditions.{cond_asked}
+use Rattle.pk_bind.specs.Select.{selection_of}
+use Rattle.pk_exec.specs.Answers.{Answers}
+use Rattle.pk_exec.specs.declared.exec_err.ExecErr.{ExecErr}
+use Rattle.pk_exec.specs.Edits.{updated, deleted, taken}
+use Rattle.pk_exec.specs.Selecting.{selected}
+use Rattle.pk_exec.specs.Rows.{AscendFrom}
+use Rattle.pk_exec.specs.Entries.{Entry}
+use Rattle.pk_exec.specs.Works.{Edits, no_edits, entries_of, Covers, Fits, work_size, size_elsewhere}
+use Rattle.pk_exec.specs.Refusals.{work_update_refusals, work_delete_refusals}
+use Rattle.pk_exec.proofs.FreshLemmas.{fresh_entries, fresh_covers, fresh_fits, fresh_elsewhere, fresh_size}
+use Rattle.pk_engine.specs.declared.outcome.Outcome.{Outcome}
+use Rattle.pk_engine.specs.declared.outcome.Outcome.TheVariants.{Done}
+use Rattle.pk_engine.specs.declared.table.TheConstants.{TABLE}
+use Rattle.pk_engine.specs.Base.{Table}
+use Rattle.pk_engine.specs.Edits.{entries_in, changes_in, update_entries, delete_entries}
+use Rattle.pk_engine.specs.Select.{found}
+use Rattle.pk_engine.specs.Outcome.{IsDone}
+use Rattle.pk_engine.specs.Valid.{IsValidTable}
+use Rattle.pk_engine.proofs.RowLemmas.{rise_ascends}
+
+pub valid_ascends : (t : Table) → IsValidTable t → AscendFrom 1 t.rows
+valid_ascends t valid = rise_ascends 1 t.next t.rows valid.ids
+
+-- ---- a work without edits
+
+pub new_fits : (s : Shape) (w : Edits) → w ≡ no_edits → Fits w s TABLE
+new_fits s w is = subst (λ (v : Edits). Fits v s TABLE) (sym is) (fresh_fits s TABLE)
+
+pub new_covers : (rows : List Placed) (w : Edits) → w ≡ no_edits → Covers w TABLE rows
+new_covers rows w is = subst (λ (v : Edits). Covers v TABLE rows) (sym is) (fresh_covers TABLE rows)
+
+pub new_entries : (t : Table) (w : Edits) → w ≡ no_edits → entries_of w TABLE t.rows ≡ entries_in t
+new_entries t w is = ap (λ (v : Edits). entries_of v TABLE t.rows) is ∙ fresh_entries TABLE t.rows
+
+pub new_elsewhere : (w : Edits) → w ≡ no_edits → size_elsewhere w TABLE ≡ 0
+new_elsewhere w is = ap (λ (v : Edits). size_elsewhere v TABLE) is ∙ fresh_elsewhere TABLE
+
+pub new_size : (w : Edits) → w ≡ no_edits → work_size w ≡ 0
+new_size w is = ap work_size is ∙ fresh_size
+
+-- ---- what it comes to
+
+settled : (rs : List (Option Refusal)) (n : ℕ) (es : List Entry) (t : Table) (m : ℕ) (seen : List Entry) (o : Outcome)
+    → first_some rs ≡ None → m ≡ n → seen ≡ es → o ≡ Done m (changes_in t seen) → IsDone rs n (changes_in t es) o
+settled rs n es t m seen o free counted same is =
+    subst (IsDone rs n (changes_in t es)) (sym is) (free, counted, ap (changes_in t) same)
+
+if_ok : {A E : Type 0} {P Q : A → Type 0} (r : Result A E) → IfOk r P → ((x : A) → P x → Q x) → IfOk r Q
+if_ok (Ok x) holds more = more x holds
+if_ok (Err e) holds more = tt
+
+-- what is seen after a statement that isn't refused is what it makes of the rows
+pub work_settled : (rs : List (Option Refusal)) (n : ℕ) (es : List Entry) (t : Table) (m : ℕ) (seen : List Entry) (r : Result Outcome Memory)
+    → first_some rs ≡ None → m ≡ n → seen ≡ es → IfOk r (λ o. o ≡ Done m (changes_in t seen)) → IfOk r (IsDone rs n (changes_in t es))
+work_settled rs n es t m seen r free counted same made = if_ok r made (λ o is. settled rs n es t m seen o free counted same is)
+
+-- ---- UPDATE and DELETE over all rows of the table
+
+pub update_refusals_are : (t : Table) (s : Shape) (rows : List Placed) (w : Edits) (u : Update) → s ≡ t.shape → rows ≡ t.rows → w ≡ no_edits
+    → work_update_refusals s (size_elsewhere w TABLE) rows (entries_of w TABLE rows) u ≡ work_update_refusals t.shape 0 t.rows (entries_in t) u
+update_refusals_are t s rows w u shape same is =
+    ap (λ (x : Shape). work_update_refusals x (size_elsewhere w TABLE) rows (entries_of w TABLE rows) u) shape
+    ∙ ap (λ (rs : List Placed). work_update_refusals t.shape (size_elsewhere w TABLE) rs (entries_of w TABLE rs) u) same
+    ∙ ap (λ (n : ℕ). work_update_refusals t.shape n t.rows (entries_of w TABLE t.rows) u) (new_elsewhere w is)
+    ∙ ap (λ (es : List Entry). work_update_refusals t.shape 0 t.rows es u) (new_entries t w is)
+
+pub update_count_is : (t : Table) (s : Shape) (rows : List Placed) (w : Edits) (u : Update) → s ≡ t.shape → rows ≡ t.rows → w ≡ no_edits
+    → length (taken (edit_of s.columns u).cond (entries_of w TABLE rows)) ≡ length (taken (cond_asked t.shape.columns u.cond) (entries_in t))
+unfolding edit_of
+update_count_is t s rows w u shape same is =
+    ap (λ (x : Shape). length (taken (cond_asked x.columns u.cond) (entries_of w TABLE rows))) shape
+    ∙ ap (λ (rs : List Placed). length (taken (cond_asked t.shape.columns u.cond) (entries_of w TABLE rs))) same
+    ∙ ap (λ (es : List Entry). length (taken (cond_asked t.shape.columns u.cond) es)) (new_entries t w is)
+
+pub update_entries_are : (t : Table) (s : Shape) (rows : List Placed) (w new : Edits) (u : Update) → s ≡ t.shape → rows ≡ t.rows → w ≡ no_edits
+    → entries_of new TABLE rows ≡ updated (edit_of s.columns u) (entries_of w TABLE rows) → entries_of new TABLE t.rows ≡ update_entries t u
+update_entries_are t s rows w new u shape same is made =
+    ap (λ (rs : List Placed). entries_of new TABLE rs) (sym same) ∙ made
+    ∙ ap (λ (x : Shape). updated (edit_of x.columns u) (entries_of w TABLE rows)) shape
+    ∙ ap (λ (rs : List Placed). updated (edit_of t.shape.columns u) (entries_of w TABLE rs)) same
+    ∙ ap (updated (edit_of t.shape.columns u)) (new_entries t w is)
+
+pub delete_refusals_are : (t : Table) (s : Shape) (rows : List Placed) (w : Edits) (d : Delete) → s ≡ t.shape → rows ≡ t.rows → w ≡ no_edits
+    → work_delete_refusals s (size_elsewhere w TABLE) rows (entries_of w TABLE rows) d ≡ work_delete_refusals t.shape 0 t.rows (entries_in t) d
+delete_refusals_are t s rows w d shape same is =
+    ap (λ (x : Shape). work_delete_refusals x (size_elsewhere w TABLE) rows (entries_of w TABLE rows) d) shape
+    ∙ ap (λ (rs : List Placed). work_delete_refusals t.shape (size_elsewhere w TABLE) rs (entries_of w TABLE rs) d) same
+    ∙ ap (λ (n : ℕ). work_delete_refusals t.shape n t.rows (entries_of w TABLE t.rows) d) (new_elsewhere w is)
+    ∙ ap (λ (es : List Entry). work_delete_refusals t.shape 0 t.rows es d) (new_entries t w is)
+
+pub delete_count_is : (t : Table) (s : Shape) (rows : List Placed) (w : Edits) (d : Delete) → s ≡ t.shape → rows ≡ t.rows → w ≡ no_edits
+    → length (taken (cond_asked s.columns d.cond) (entries_of w TABLE rows)) ≡ length (taken (cond_asked t.shape.columns d.cond) (entries_in t))
+delete_count_is t s rows w d shape same is =
+    ap (λ (x : Shape). length (taken (cond_asked x.columns d.cond) (entries_of w TABLE rows))) shape
+    ∙ ap (λ (rs : List Placed). length (taken (cond_asked t.shape.columns d.cond) (entries_of w TABLE rs))) same
+    ∙ ap (λ (es : List Entry). length (taken (cond_asked t.shape.columns d.cond) es)) (new_entries t w is)
+
+pub delete_entries_are : (t : Table) (s : Shape) (rows : List Placed) (w new : Edits) (d : Delete) → s ≡ t.shape → rows ≡ t.rows → w ≡ no_edits
+    → entries_of new TABLE rows ≡ deleted (cond_asked s.columns d.cond) (entries_of w TABLE rows) → entries_of new TABLE t.rows ≡ delete_entries t d
+delete_entries_are t s rows w new d shape same is made =
+    ap (λ (rs : List Placed). entries_of new TABLE rs) (sym same) ∙ made
+    ∙ ap (λ (x : Shape). deleted (cond_asked x.columns d.cond) (entries_of w TABLE rows)) shape
+    ∙ ap (λ (rs : List Placed). deleted (cond_asked t.shape.columns d.cond) (entries_of w TABLE rs)) same
+    ∙ ap (deleted (cond_asked t.shape.columns d.cond)) (new_entries t w is)
+
+-- ---- SELECT
+
+pub found_is : (t : Table) (s : Shape) (rows : List Placed) (w : Edits) (sel : Select) → s ≡ t.shape → rows ≡ t.rows → w ≡ no_edits
+    → selected (selection_of s.columns sel) (names_of s.columns) (entries_of w TABLE rows) ≡ found t sel
+found_is t s rows w sel shape same is =
+    ap (λ (x : Shape). selected (selection_of x.columns sel) (names_of x.columns) (entries_of w TABLE rows)) shape
+    ∙ ap (λ (rs : List Placed). selected (selection_of t.shape.columns sel) (names_of t.shape.columns) (entries_of w TABLE rs)) same
+    ∙ ap (selected (selection_of t.shape.columns sel) (names_of t.shape.columns)) (new_entries t w is)
+
+pub answers_again : {X : Type 0} → (old new : List (Option Refusal)) (x y : X) (r : Result X ExecErr) → old ≡ new → x ≡ y → Answers old x r → Answers new y r
+answers_again old new x y r lists same answers = subst (λ z. Answers new z r) same (subst (λ (rs : List (Option Refusal)). Answers rs x r) lists answers)

@@ -1,0 +1,21 @@
+use Rattle.pk_engine.proofs.StandsLemmas.{stands_order, ok_replies_about, ok_moves_about, ok_replies_none, ok_moves_none}
+use Rattle.pk_engine.proofs.engine.Engine.drop_table.Goals as goal
+
+pub drop_at-requires-clause-found : goal.drop_at-requires-clause-found
+drop_at-requires-clause-found c = c.in-Ok.ensures.place (stands_order c.args.self.now c.requires.stands.0 c.requires.stands.1)
+
+pub returns-in-Ok-clause-reply : goal.returns-in-Ok-clause-reply
+returns-in-Ok-clause-reply c =
+    ok_replies_about c.args.self.now c.args.name.now c.in-Ok.place _ c.drop_at.result (c.in-Ok.ensures.place (stands_order c.args.self.now c.requires.stands.0 c.requires.stands.1)) c.drop_at.ensures.reply
+
+pub returns-in-Ok-clause-next : goal.returns-in-Ok-clause-next
+returns-in-Ok-clause-next c =
+    ok_moves_about c.args.self.now c.drop_at.new.self c.args.name.now c.in-Ok.place _ c.drop_at.result (c.in-Ok.ensures.place (stands_order c.args.self.now c.requires.stands.0 c.requires.stands.1)) c.drop_at.ensures.next
+
+pub returns-in-Err-clause-reply : goal.returns-in-Err-clause-reply
+returns-in-Err-clause-reply c =
+    ok_replies_none c.args.self.now c.args.name.now c.in-Err.field-0 _ c.no_table.result (c.in-Err.ensures.place (stands_order c.args.self.now c.requires.stands.0 c.requires.stands.1)) c.no_table.ensures
+
+pub returns-in-Err-clause-next : goal.returns-in-Err-clause-next
+returns-in-Err-clause-next c =
+    ok_moves_none c.args.self.now c.args.name.now c.in-Err.field-0 _ c.no_table.result (c.in-Err.ensures.place (stands_order c.args.self.now c.requires.stands.0 c.requires.stands.1))

@@ -1,0 +1,27 @@
+use Rattle.std.proofs.Common.{sym, subst, refl}
+use Rattle.pk_bind.specs.Select.{select_refusals}
+use Rattle.pk_engine.specs.Select.{selected_rows}
+use Rattle.pk_engine.specs.Stands.{StandsFor}
+use Rattle.pk_engine.proofs.AnswerLemmas.{about_leaves}
+use Rattle.pk_engine.proofs.StandsLemmas.{stands_order, ok_replies_about, ok_replies_none, moves_none}
+use Rattle.pk_engine.proofs.engine.Engine.select.Goals as goal
+
+pub select_at-requires-clause-found : goal.select_at-requires-clause-found
+select_at-requires-clause-found c = c.in-Ok.ensures.place (stands_order c.args.self.now c.requires.stands.0 c.requires.stands.1)
+
+pub returns-in-Ok-clause-reply : goal.returns-in-Ok-clause-reply
+returns-in-Ok-clause-reply c =
+    ok_replies_about c.args.self.now c.args.select.now.table c.in-Ok.place _ c.select_at.result (c.in-Ok.ensures.place (stands_order c.args.self.now c.requires.stands.0 c.requires.stands.1)) c.select_at.ensures
+
+pub returns-in-Ok-clause-next : goal.returns-in-Ok-clause-next
+returns-in-Ok-clause-next c = λ st stands.
+    let s = c.args.select.now in
+    subst (StandsFor c.args.self.now) (sym (about_leaves st s.table (λ t. select_refusals t.shape s) (λ t. selected_rows st t s) (λ t. refl))) stands
+
+pub returns-in-Err-clause-reply : goal.returns-in-Err-clause-reply
+returns-in-Err-clause-reply c =
+    ok_replies_none c.args.self.now c.args.select.now.table c.in-Err.field-0 _ c.no_table.result (c.in-Err.ensures.place (stands_order c.args.self.now c.requires.stands.0 c.requires.stands.1)) c.no_table.ensures
+
+pub returns-in-Err-clause-next : goal.returns-in-Err-clause-next
+returns-in-Err-clause-next c =
+    moves_none c.args.self.now c.args.select.now.table c.in-Err.field-0 _ (c.in-Err.ensures.place (stands_order c.args.self.now c.requires.stands.0 c.requires.stands.1))

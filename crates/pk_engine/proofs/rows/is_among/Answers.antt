@@ -1,0 +1,6 @@
+use Rattle.std.proofs.Common.{◌∙◌}
+use Rattle.pk_engine.proofs.RowLemmas.{among_searched}
+use Rattle.pk_engine.proofs.rows.is_among.Goals as goal
+
+pub returns : goal.returns
+returns c = c.is_ok.ensures.value ∙ among_searched c.args.ids.now c.args.id c.binary_search.result c.binary_search.ensures.position c.requires
