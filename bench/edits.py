@@ -10,11 +10,7 @@ single INSERTs show what one row costs in a table of that size. It judges nothin
 With a path as its argument it times that program in place of the one that `keytab` at the top builds.
 """
 
-import pathlib
-import subprocess
-import sys
-
-from shapes import PROGRAM, TOP, run
+from shapes import chosen_program, run
 
 SIZES = (20_000, 200_000)
 RUNS = 3
@@ -54,11 +50,7 @@ def best(program, text):
 
 
 def main():
-    if len(sys.argv) > 1:
-        program = pathlib.Path(sys.argv[1]).resolve()
-    else:
-        program = PROGRAM
-        subprocess.run([TOP / "keytab", "memory"], input=b"", check=True)
+    program = chosen_program()
     fills = {rows: best(program, filled(rows))[0] for rows in SIZES}
     print(f"{'statement':<26} {'20,000':>9} {'200,000':>9} {'growth':>7} {'memory':>9}")
     for name, statement in STATEMENTS.items():

@@ -66,12 +66,16 @@ def run(program, text):
     return used.ru_utime + used.ru_stime, used.ru_maxrss * 1024
 
 
-def main():
+def chosen_program():
+    """The program that the argument names, or the one of `keytab` at the top, built where it isn't yet."""
     if len(sys.argv) > 1:
-        program = pathlib.Path(sys.argv[1]).resolve()
-    else:
-        program = PROGRAM
-        subprocess.run([TOP / "keytab", "memory"], input=b"", check=True)
+        return pathlib.Path(sys.argv[1]).resolve()
+    subprocess.run([TOP / "keytab", "memory"], input=b"", check=True)
+    return PROGRAM
+
+
+def main():
+    program = chosen_program()
     print(f"{'shape':<24} {'1 MiB':>8} {'4 MiB':>8} {'growth':>7} {'MB a second':>12} {'bytes a byte':>13}")
     for shape in SHAPES:
         taken = []
