@@ -1,0 +1,5 @@
+pub mod ColumnLemmas
+pub mod StepLemmas
+pub mod RowLemmas
+pub mod RuleLemmas
+pub mod ShapeLemmas

@@ -1,0 +1,18 @@
+-- That the shape of a schema is plain.
+use Rattle.std.proofs.Common.{◌≡◌, sym, subst, ◌^◌, ◌<◌, ◌≤◌, length}
+use Rattle.std.specs.List.{All}
+use Rattle.std.proofs.lemmas.List.{length-map}
+use Rattle.pk_values.specs.declared.key.KeyDecl.{KeyDecl}
+use Rattle.pk_parse.specs.declared.declaration.ColumnDecl.{ColumnDecl}
+use Rattle.pk_schema.specs.Shapes.{Shape, IsShape, kinds_of, not_null_of}
+use Rattle.pk_schema.proofs.SetLemmas.{set_small}
+use Rattle.pk_rule.specs.Plain.{IsPlain, plain_of}
+
+pub plain_shape : (s : Shape) → IsShape s → IsPlain (plain_of s)
+plain_shape s shape =
+    let same : length s.columns ≡ length (kinds_of s.columns) = sym (length-map s.columns (λ (c : ColumnDecl). c.kind)) in
+    record {
+      few_columns = subst (λ n. n ≤ 32) same shape.few_columns;
+      known_inside = subst (λ n. not_null_of s.columns < 2 ^ n) same (set_small (λ (c : ColumnDecl). c.not_null) s.columns);
+      keys_inside = subst (λ n. All (λ (k : KeyDecl). k.columns < 2 ^ n) s.keys) same shape.keys_inside;
+    }

@@ -1,0 +1,5 @@
+pub mod Plain
+pub mod Tables
+pub mod Rule
+pub mod TwoRows
+pub mod Laws
