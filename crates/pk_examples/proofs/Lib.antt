@@ -1,0 +1,3 @@
+pub mod EntryLemmas
+pub mod AdmitLemmas
+pub mod RefuteLemmas
