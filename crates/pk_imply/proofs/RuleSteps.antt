@@ -1,0 +1,151 @@
+-- The rules that are told lead to the key, and rules that lead to a key are sound.
+use Rattle.std.proofs.Common.{◌≡◌, refl, sym, ◌∙◌, ap, subst, ℕ, zero, suc, ◌+◌, ◌^◌, ◌<◌, true, false, ◌==◌, List, [], ◌∷◌, length, get_or, inl, inr, arith}
+use Rattle.std.specs.Prelude.{Some, slice_get}
+use Rattle.std.specs.List.{list_any}
+use Rattle.std.proofs.lemmas.Bool.{cases_Bool, eqb-true}
+use Rattle.std.proofs.lemmas.List.Quantifiers.{position-Some}
+use Rattle.std.proofs.lemmas.Option.{get_or_from_slice_get, slice_get-get_or}
+use Rattle.pk_values.specs.declared.key.KeyDecl.{KeyDecl}
+use Rattle.pk_values.specs.declared.key.Sort.{Sort}
+use Rattle.pk_values.specs.declared.key.Sort.TheVariants.{Certain, Possible}
+use Rattle.pk_values.specs.declared.rule.Rule.{Rule}
+use Rattle.pk_values.specs.declared.rule.Rule.TheVariants.{Declared, Strengthen, Weaken, Extend}
+use Rattle.pk_values.specs.declared.value.Value.{Value}
+use Rattle.pk_values.specs.ColumnSet.{IsColumnSet, is_subset}
+use Rattle.pk_rule.specs.Plain.{Plain, IsPlain}
+use Rattle.pk_rule.specs.Tables.{KeyHolds, KeysHold, TableOf, Implied}
+use Rattle.pk_rule.specs.Rule.{alone_implies, is_implied}
+use Rattle.pk_rule.specs.Laws.{key_over}
+use Rattle.pk_rule.proofs.StepLemmas.{step_holds}
+use Rattle.pk_imply.specs.Deriving.{implying_place, column_rules, rules_between, rules_from, rules_of, Leads, Derives}
+use Rattle.pk_imply.proofs.PlaceLemmas.{got_in}
+use Rattle.pk_imply.proofs.SubsetLemmas.{subset_refl}
+use Rattle.pk_imply.proofs.RuleLemmas.{alone_from, alone_parts, fits_own, known_of_possible}
+use Rattle.pk_imply.proofs.CoverLemmas.{inside_set, key_inside}
+
+-- ---- which rules are told
+
+rules_first : (known n : ℕ) (keys : List KeyDecl) (k : KeyDecl) (i : ℕ) (d : KeyDecl) → slice_get keys i ≡ Some d → alone_implies known d k ≡ true
+    → ((j : ℕ) (e : KeyDecl) → j < i → slice_get keys j ≡ Some e → alone_implies known e k ≡ false)
+    → rules_from known n keys k ≡ Declared (n + i) ∷ rules_between d k
+unfolding rules_from
+rules_first known n [] k i d got alone earlier = cc
+rules_first known n (x ∷ xs) k zero d got alone earlier =
+    let same : d ≡ x = some_same got in
+    let here : alone_implies known x k ≡ true = subst (λ (e : KeyDecl). alone_implies known e k ≡ true) same alone in
+    let count : n + 0 ≡ n = omega arith in
+    rw (here, count, same) refl
+  where
+    some_same : Some x ≡ Some d → d ≡ x
+    some_same is = cc
+rules_first known n (x ∷ xs) k (suc i) d got alone earlier =
+    let not_here : alone_implies known x k ≡ false = earlier 0 x (omega arith) refl in
+    let later = rules_first known (suc n) xs k i d got alone (λ j e before at. earlier (suc j) e (omega (arith, before)) at) in
+    let count : suc n + i ≡ n + suc i = omega arith in
+    rw not_here (later ∙ ap (λ m. Declared m ∷ rules_between d k) count)
+
+pub rules_at : (s : Plain) (k : KeyDecl) (i : ℕ) (d : KeyDecl) → implying_place s k ≡ Some i → slice_get s.keys i ≡ Some d
+    → rules_of s k ≡ Declared (i + 1) ∷ rules_between d k
+rules_at s k i d place got =
+    let first = position-Some (λ (e : KeyDecl). alone_implies s.known e k) s.keys i d place in
+    let count : 1 + i ≡ i + 1 = omega arith in
+    rules_first s.known 1 s.keys k i d got
+    (subst (λ (e : KeyDecl). alone_implies s.known e k ≡ true) (get_or_from_slice_get s.keys i d d got) first.1)
+    (λ j e before at. subst (λ (f : KeyDecl). alone_implies s.known f k ≡ false) (get_or_from_slice_get s.keys j e d at) (first.2 j before))
+    ∙ ap (λ m. Declared m ∷ rules_between d k) count
+
+-- the same by the key that is read at the place
+pub rules_read : (s : Plain) (k : KeyDecl) (keys : List KeyDecl) (i : ℕ) (d : KeyDecl) → keys ≡ s.keys → implying_place s k ≡ Some i → d ≡ get_or keys i d
+    → rules_of s k ≡ Declared (i + 1) ∷ rules_between d k
+rules_read s k keys i d same place is =
+    let first = position-Some (λ (e : KeyDecl). alone_implies s.known e k) s.keys i d place in
+    let read : d ≡ get_or s.keys i d = subst (λ (es : List KeyDecl). d ≡ get_or es i d) same is in
+    rules_at s k i d place (slice_get-get_or s.keys i d first.0 ∙ ap (λ (e : KeyDecl). Some e) (sym read))
+
+-- ---- they lead to the key
+
+columns_lead : (known : ℕ) (sort : Sort) (x y : ℕ) → IsColumnSet y → is_subset x y ≡ true → Leads known (key_over sort x) (column_rules x y) (key_over sort y)
+columns_lead known sort x y is_set inside =
+    elim (cases_Bool (x == y)) [
+      | inl same ↦ rw same (ap (key_over sort) (eqb-true x y same))
+      | inr other ↦ rw other (is_set, inside, refl)
+    ]
+
+keys_lead : (known : ℕ) (r t : Sort) (x y : ℕ) → IsColumnSet y → alone_implies known (key_over r x) (key_over t y) ≡ true
+    → Leads known (key_over r x) (rules_between (key_over r x) (key_over t y)) (key_over t y)
+keys_lead known Certain Certain x y is_set alone = columns_lead known Certain x y is_set (alone_parts known (key_over Certain x) (key_over Certain y) alone).0
+keys_lead known Possible Possible x y is_set alone = columns_lead known Possible x y is_set (alone_parts known (key_over Possible x) (key_over Possible y) alone).0
+keys_lead known Certain Possible x y is_set alone = (refl, columns_lead known Possible x y is_set (alone_parts known (key_over Certain x) (key_over Possible y) alone).0)
+keys_lead known Possible Certain x y is_set alone =
+    let parts = alone_parts known (key_over Possible x) (key_over Certain y) alone in
+    (refl, known_of_possible known x parts.1, columns_lead known Certain x y is_set parts.0)
+
+-- some declared key implies k, and the rules are those from the first
+first_rules : (known n : ℕ) (keys : List KeyDecl) (k : KeyDecl) → list_any (λ d. alone_implies known d k) keys ≡ true
+    → (i : ℕ) × (d : KeyDecl) × (slice_get keys i ≡ Some d) × (alone_implies known d k ≡ true) × (rules_from known n keys k ≡ Declared (n + i) ∷ rules_between d k)
+unfolding rules_from
+first_rules known n [] k none = cc
+first_rules known n (x ∷ xs) k some =
+    elim (cases_Bool (alone_implies known x k)) [
+      | inl alone ↦ (0, x, refl, alone, rw alone (ap (λ m. Declared m ∷ rules_between x k) (count n)))
+      | inr fails ↦
+          let later = first_rules known (suc n) xs k (rw fails at some) in
+          (suc later.0, later.1, later.2, later.3, rw fails (later.4 ∙ ap (λ m. Declared m ∷ rules_between later.1 k) (count_more n later.0)))
+    ]
+  where
+    count : (n : ℕ) → n ≡ n + 0
+    count n = omega arith
+
+    count_more : (n i : ℕ) → suc n + i ≡ n + suc i
+    count_more n i = omega arith
+
+pub rules_lead : (s : Plain) (k : KeyDecl) → IsPlain s → k.columns < 2 ^ length s.kinds → is_implied s k ≡ true → Derives s (rules_of s k) k
+unfolding is_implied
+rules_lead s k plain inside implied =
+    let first = first_rules s.known 1 s.keys k implied in
+    subst (λ rules. Derives s rules k) (sym first.4)
+    (first.0, first.1, count first.0, first.2, keys_lead s.known first.1.sort k.sort first.1.columns k.columns (inside_set s k.columns plain inside) first.3)
+  where
+    count : (i : ℕ) → 1 + i ≡ suc i
+    count i = omega arith
+
+-- ---- whatever leads to a key is sound
+
+turn_step : (s : Plain) (rows : List (List Value)) (of to : Sort) (x y : ℕ) → IsPlain s → IsColumnSet y → TableOf s rows
+    → alone_implies s.known (key_over of x) (key_over to y) ≡ true → KeyHolds s.kinds rows (key_over of x) → KeyHolds s.kinds rows (key_over to y)
+turn_step s rows of to x y plain y_set table alone holds =
+    step_holds s.kinds rows s.known of to x y (inside_set s s.known plain plain.known_inside) y_set table.0 table.1 alone holds
+
+-- rules keep what holds in a table
+kept_by_rules : (s : Plain) (rows : List (List Value)) (rules : List Rule) (of : Sort) (x : ℕ) (k : KeyDecl) → IsPlain s → IsColumnSet x → TableOf s rows
+    → Leads s.known (key_over of x) rules k → KeyHolds s.kinds rows (key_over of x) → KeyHolds s.kinds rows k
+kept_by_rules s rows [] of x k plain x_set table leads holds = subst (KeyHolds s.kinds rows) leads holds
+kept_by_rules s rows (Declared place ∷ rules) of x k plain x_set table leads holds = absurd leads
+kept_by_rules s rows (Strengthen ∷ rules) of x k plain x_set table leads holds =
+    kept_by_rules s rows rules Certain x k plain x_set table leads.2
+    (turn_step s rows of Certain x x plain x_set table (rw (subset_refl x, leads.0, leads.1) refl) holds)
+kept_by_rules s rows (Weaken ∷ rules) of x k plain x_set table leads holds =
+    kept_by_rules s rows rules Possible x k plain x_set table leads.1
+    (turn_step s rows of Possible x x plain x_set table (rw (subset_refl x) refl) holds)
+kept_by_rules s rows (Extend more ∷ rules) of x k plain x_set table leads holds =
+    kept_by_rules s rows rules of more k plain leads.0 table leads.2
+    (turn_step s rows of of x more plain leads.0 table (alone_from s.known (key_over of x) (key_over of more) leads.1 (fits_own s.known (key_over of x))) holds)
+
+declared_holds : (s : Plain) (rows : List (List Value)) (keys : List KeyDecl) (i : ℕ) (d : KeyDecl) → slice_get keys i ≡ Some d
+    → KeysHold s.kinds rows keys → KeyHolds s.kinds rows d
+declared_holds s rows [] i d got hold = cc
+declared_holds s rows (e ∷ es) zero d got hold = subst (KeyHolds s.kinds rows) (some_same e d got) hold.0
+  where
+    some_same : (e d : KeyDecl) → Some e ≡ Some d → e ≡ d
+    some_same e d is = cc
+declared_holds s rows (e ∷ es) (suc i) d got hold = declared_holds s rows es i d got hold.1
+
+pub derived_holds : (s : Plain) (rules : List Rule) (k : KeyDecl) → IsPlain s → Derives s rules k → Implied s k
+derived_holds s [] k plain derives = absurd derives
+derived_holds s (Strengthen ∷ rules) k plain derives = absurd derives
+derived_holds s (Weaken ∷ rules) k plain derives = absurd derives
+derived_holds s (Extend more ∷ rules) k plain derives = absurd derives
+derived_holds s (Declared place ∷ rules) k plain derives = λ rows table.
+    let d_set = inside_set s derives.1.columns plain (key_inside s derives.1 plain (got_in s.keys derives.0 derives.1 derives.3)) in
+    kept_by_rules s rows rules derives.1.sort derives.1.columns k plain d_set table derives.4
+    (declared_holds s rows s.keys derives.0 derives.1 derives.3 table.2)
