@@ -1,0 +1,5 @@
+use Rattle.pk_guard.proofs.LeastLemmas.{breaks_show_two_rows}
+use Rattle.pk_guard.proofs.laws.breaks_show_two_rows.Goals as goal
+
+pub returns : goal.returns
+returns c = breaks_show_two_rows

@@ -1,0 +1,19 @@
+use Rattle.std.proofs.Common.{◌≡◌, length}
+use Rattle.std.specs.Prelude.{find}
+use Rattle.pk_guard.specs.Breaks.{breaks}
+use Rattle.pk_guard.specs.Changed.{RowsAscend}
+use Rattle.pk_guard.specs.Splits.{standing, AreWide}
+use Rattle.pk_guard.proofs.pairs.first_standing.Given as goal
+
+-- the rows that are left decide, and are as all were
+abbrev pub invariant-loop-next : goal.invariant-loop-next
+invariant-loop-next l = record {
+  decides : find (breaks l.key l.low) (standing l.gone l.left l.kept) ≡ find (breaks l.key l.low) (standing l.gone l.put l.rows);
+  kept_wide : AreWide l.key l.kept;
+  left_wide : AreWide l.key l.left;
+  kept_ascend : RowsAscend l.kept;
+  left_ascend : RowsAscend l.left;
+}
+
+abbrev pub decreases-loop-next : goal.decreases-loop-next
+decreases-loop-next l = length l.left

@@ -1,0 +1,29 @@
+-- What becomes of a table's rows, which stand in the order of their ids.
+use Rattle.std.specs.Prelude.{ℕ, Bool, not, ◌==◌, List, [], ◌∷◌, map, filter, nat_lt, if◌then◌else◌}
+use Rattle.std.specs.List.{list_any}
+use Rattle.std.specs.List.Sorted.{IsStrictlySortedBy}
+use Rattle.std.specs.Ordering.{nat_cmp}
+use Rattle.pk_values.specs.declared.changes.Changes.{Changes}
+use Rattle.pk_values.specs.declared.placed.Placed.{Placed}
+
+-- each id is above those before it
+abbrev pub RowsAscend : List Placed → Type 0
+RowsAscend rows = IsStrictlySortedBy nat_cmp (map (λ (p : Placed). p.id) rows)
+
+-- the row at its place among the rows, in the place of the one with its id
+unfoldable pub put_row : Placed → List Placed → List Placed
+put_row p [] = p ∷ []
+put_row p (q ∷ qs) = if nat_lt q.id p.id then q ∷ put_row p qs else if q.id == p.id then p ∷ qs else p ∷ q ∷ qs
+
+-- each of the rows is put, one behind the other
+unfoldable pub put_rows : List Placed → List Placed → List Placed
+put_rows [] rows = rows
+put_rows (p ∷ ps) rows = put_rows ps (put_row p rows)
+
+-- the row isn't among those that go
+abbrev pub stays : List ℕ → Placed → Bool
+stays gone p = not (list_any (λ id. id == p.id) gone)
+
+-- the rows with these changes: those that go are out, then those that are put stand in their places
+abbrev pub changed_rows : Changes → List Placed → List Placed
+changed_rows c rows = put_rows c.put (filter (λ (p : Placed). not (list_any (λ id. id == p.id) c.gone)) rows)

@@ -1,0 +1,20 @@
+//! What the first break says of keys. A law is a contract; its function does nothing.
+
+ghost use Rattle.pk_guard.specs.Laws.{KeysHoldWhereNothingBreaks, FirstBreaksAreLeast, BreaksShowTwoRows};
+
+/// All keys of a table hold, over all completions of its rows, exactly where nothing breaks.
+pub fn keys_hold_where_nothing_breaks()
+    ensures { KeysHoldWhereNothingBreaks }
+{}
+
+/// Where there is a first break, it is the least of all: by the key's place, then by the lower id, then
+/// by the higher. Where there is none, no two rows break a key.
+pub fn first_breaks_are_least()
+    ensures { FirstBreaksAreLeast }
+{}
+
+/// A break shows two rows and values that they have in common, for a certain key in some completion of
+/// theirs and for a possible key as they are; so the key doesn't hold.
+pub fn breaks_show_two_rows()
+    ensures { BreaksShowTwoRows }
+{}
