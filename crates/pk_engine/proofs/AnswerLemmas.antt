@@ -2,14 +2,9 @@
 use Rattle.std.proofs.Common.{◌≡◌, ℕ, List, [], ◌∷◌, ◌++◌, Option, Some, None, refl, ap}
 use Rattle.pk_values.specs.declared.refusal.Refusal.{Refusal}
 use Rattle.pk_values.specs.Refusals.{first_some}
-use Rattle.pk_report.specs.declared.reply.Reply.TheVariants.{Refused}
 use Rattle.pk_engine.specs.State.{State}
 use Rattle.pk_engine.specs.Base.{Table}
-use Rattle.pk_engine.specs.Refusing.{Step, decided, refused_or, about, about_found, table_of}
-
--- a refusal that leaves the state
-abbrev pub refused : State → Refusal → Step
-refused st r = record { reply = Refused r; next = st }
+use Rattle.pk_engine.specs.Refusing.{Step, refused, decided, refused_or, about, about_found, table_of}
 
 -- where a refusal stands, it is the answer
 pub decided_refused : (st : State) (rs : List (Option Refusal)) (done : Step) (r : Refusal) → first_some rs ≡ Some r → decided st rs done ≡ refused st r
@@ -65,7 +60,11 @@ left_found st name answer (Some t) same = same t
 left_found st name answer None same = refl
 
 -- an answer that changes nothing of any table changes nothing
+pub told_leaves : (st : State) (name : List ℕ) (step : Table → Step) → ((t : Table) → (step t).next ≡ st) → (about st name step).next ≡ st
+unfolding about
+told_leaves st name step same = left_found st name step (table_of st name) same
+
+-- nor does one where a refusal may stand
 pub about_leaves : (st : State) (name : List ℕ) (refusals : Table → List (Option Refusal)) (done : Table → Step) → ((t : Table) → (done t).next ≡ st)
     → (about st name (λ t. decided st (refusals t) (done t))).next ≡ st
-unfolding about
-about_leaves st name refusals done same = left_found st name _ (table_of st name) (λ t. left_or st (first_some (refusals t)) (done t) (same t))
+about_leaves st name refusals done same = told_leaves st name _ (λ t. left_or st (first_some (refusals t)) (done t) (same t))

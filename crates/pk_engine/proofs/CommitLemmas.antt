@@ -18,8 +18,9 @@ use Rattle.pk_engine.specs.Base.{Table, is_named, table_named, with_table, witho
 use Rattle.pk_exec.specs.Refusals.{many_changes}
 use Rattle.pk_engine.specs.Create.{if_found, table_exists}
 use Rattle.pk_engine.specs.Drop.{table_large, drop_refusals, dropped}
-use Rattle.pk_engine.specs.Refusing.{decided}
-use Rattle.pk_engine.specs.Edits.{is_unchanged, commit_refusals, with_changes}
+use Rattle.pk_engine.specs.Refusing.{refused, decided}
+use Rattle.pk_engine.specs.Edits.{change_refusals}
+use Rattle.pk_engine.specs.Keys.{key_broken}
 use Rattle.pk_engine.specs.Entries.{AreOf}
 use Rattle.pk_engine.specs.Limits.{most_tables, most_rows, most_ids, rows_full, ids_full, commits_full, limit_refusals}
 use Rattle.pk_engine.specs.Place.{IsPlaceOf}
@@ -34,7 +35,7 @@ use Rattle.pk_engine.proofs.TableLemmas.{change_place, without_place, with_table
 use Rattle.pk_engine.proofs.EntryLemmas.{entries_committed, entries_counted, length-placed, put_counted, added_few, gone_ascend}
 use Rattle.pk_engine.proofs.LimitLemmas.{rows_within, ids_within, commits_within}
 use Rattle.pk_engine.proofs.StandsLemmas.{table_at, table_absent, place_within, stands_table, stands_tables, stands_order, stands_rows, stands_valid, stands_commit, commit_stands}
-use Rattle.pk_engine.proofs.AnswerLemmas.{refused, second_refused, both_free}
+use Rattle.pk_engine.proofs.AnswerLemmas.{first_behind, second_refused, both_free}
 use Rattle.pk_engine.proofs.ValidLemmas.{changed_is_valid, made_is_valid, dropped_is_valid, rows_with_table}
 
 -- how many rows are new
@@ -149,39 +150,36 @@ ids_free st t c count le = rw (under most_ids (changed_by c t).next (let next = 
 
 -- ---- the commit
 
-first_none : (a b c : Option Refusal) → first_some (a ∷ b ∷ c ∷ []) ≡ None → (a ≡ None) × (b ≡ None) × (c ≡ None)
-first_none None None None none = (refl, refl, refl)
-first_none None None (Some r) none = absurd cc
-first_none None (Some r) c none = absurd cc
-first_none (Some r) b c none = absurd cc
+first_none : (a b c d : Option Refusal) → first_some (a ∷ b ∷ c ∷ d ∷ []) ≡ None → (a ≡ None) × (b ≡ None) × (c ≡ None) × (d ≡ None)
+first_none None None None None none = (refl, refl, refl, refl)
+first_none None None None (Some r) none = absurd cc
+first_none None None (Some r) d none = absurd cc
+first_none None (Some r) c d none = absurd cc
+first_none (Some r) b c d none = absurd cc
 
 -- an engine that has changed the table at the place stands for the state with that commit
 pub changes_stand : (e n : Engine) (st : State) (place : ℕ) (t : Table) (c : Changes) (rows : ℕ) → StandsFor e st → slice_get e.tables.items place ≡ Some t → IsValidTable t → AreOf t c
-    → first_some (limit_refusals st t c) ≡ None → rows ≡ min (row_count (committed (current st) (Changed ((t.name, c) ∷ [])))) (2 ^ 64 - 1)
+    → first_some (change_refusals st t c) ≡ None → rows ≡ min (row_count (committed (current st) (Changed ((t.name, c) ∷ [])))) (2 ^ 64 - 1)
     → n.commit ≡ e.commit + 1 → n.tables.items ≡ set e.tables.items place (changed_by c t) → n.rows ≡ rows
     → StandsFor n (with_commit st (Changed ((t.name, c) ∷ [])))
 changes_stand e n st place t c rows stands is good of none sum commit tables count =
-    let free = first_none (rows_full st (Changed ((t.name, c) ∷ []))) (ids_full t c) (commits_full st) none in
+    let free = first_none (rows_full st (Changed ((t.name, c) ∷ []))) (ids_full t c) (commits_full st) (key_broken (changed_by c t)) none in
     let most = rows_within st t c free.0 in
     let there = ap (table_named t.name) (stands_tables e st stands) ∙ named_at t.name e.tables.items place t (found_at e st place t stands is) (sym (get_or_from_slice_get e.tables.items place t t is)) in
     commit_stands e n st (Changed ((t.name, c) ∷ [])) stands commit
     (tables ∙ sym (tables_changed e st place t c stands is))
     (count ∙ omega (arith, sum, most))
-    (changed_is_valid (current st) t c (stands_valid e st stands) there good of (ids_within t c free.1) most (commits_within st free.2))
+    (changed_is_valid (current st) t c (stands_valid e st stands) there good of (ids_within t c free.1) most (commits_within st free.2) free.3)
 
--- ---- settling
+-- ---- what changes are refused for
 
-pub nothing_refused : (st : State) (t : Table) (c : Changes) → is_unchanged c ≡ true → commit_refusals st t c ≡ []
-nothing_refused st t c same = rw same refl
+first_one : (o : Option Refusal) → first_some (o ∷ []) ≡ o
+first_one (Some r) = refl
+first_one None = refl
 
-pub nothing_changed : (st : State) (t : Table) (c : Changes) → is_unchanged c ≡ true → with_changes st t c ≡ st
-nothing_changed st t c same = rw same refl
-
-pub limits_refuse : (st : State) (t : Table) (c : Changes) → is_unchanged c ≡ false → commit_refusals st t c ≡ limit_refusals st t c
-limits_refuse st t c differ = rw differ refl
-
-pub changes_made : (st : State) (t : Table) (c : Changes) → is_unchanged c ≡ false → with_changes st t c ≡ with_commit st (Changed ((t.name, c) ∷ []))
-changes_made st t c differ = rw differ refl
+-- where the limits have room, the keys decide
+pub keys_decide : (st : State) (t : Table) (c : Changes) → first_some (limit_refusals st t c) ≡ None → first_some (change_refusals st t c) ≡ key_broken (changed_by c t)
+keys_decide st t c free = first_behind (limit_refusals st t c) (key_broken (changed_by c t) ∷ []) free ∙ first_one (key_broken (changed_by c t))
 
 -- ---- the table at a place
 

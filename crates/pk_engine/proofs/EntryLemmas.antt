@@ -28,18 +28,18 @@ other_id m n lt = grind (arith, lt)
 other_above : (m n : ℕ) → n + 1 ≤ m → (m == n) ≡ false
 other_above m n le = grind (arith, le)
 
-id_of_itself : (n : ℕ) → (n == n) ≡ true
+pub id_of_itself : (n : ℕ) → (n == n) ≡ true
 id_of_itself n = grind arith
 
 -- all ids are at least this
-abbrev AreFrom : ℕ → List Placed → Type 0
+abbrev pub AreFrom : ℕ → List Placed → Type 0
 AreFrom least rows = AllByRecursion (λ p. least ≤ p.id) rows
 
 from_lower : (low high : ℕ) (ps : List Placed) → low ≤ high → AreFrom high ps → AreFrom low ps
 from_lower low high [] le from = tt
 from_lower low high (p ∷ ps) le from = (omega (arith, le, from.0), from_lower low high ps le from.1)
 
-rise_from : (least next : ℕ) (ps : List Placed) → IdsRise least ps next → AreFrom least ps
+pub rise_from : (least next : ℕ) (ps : List Placed) → IdsRise least ps next → AreFrom least ps
 rise_from least next [] rise = tt
 rise_from least next (p ∷ ps) rise = (rise.0, from_lower least (p.id + 1) ps (omega (arith, rise.0)) (rise_from (p.id + 1) next ps rise.1))
 
@@ -67,7 +67,7 @@ found_more : (r : Placed) (whole rows : List Placed) → AreFound whole rows →
 found_more r whole [] found = tt
 found_more r whole (p ∷ ps) found = (or_true (r.id == p.id) _ found.0, found_more r whole ps found.1)
 
-found_whole : (rows : List Placed) → AreFound rows rows
+pub found_whole : (rows : List Placed) → AreFound rows rows
 found_whole [] = tt
 found_whole (p ∷ ps) = (ap (λ (b : Bool). b || list_any (λ (id : ℕ). id == p.id) (ids_of ps)) (id_of_itself p.id), found_more p ps ps (found_whole ps))
 
@@ -78,7 +78,7 @@ stays_when false found is = ap not is
 chosen : {X : Type 0} (b c : Bool) (x : X) (us vs : List X) → b ≡ c → us ≡ vs → cond b (x ∷ us) us ≡ cond c (x ∷ vs) vs
 chosen b c x us vs e f = rw (e, f) refl
 
-kept_by_entries : (es : List Entry) (whole rows : List Placed) → AreFound whole rows
+pub kept_by_entries : (es : List Entry) (whole rows : List Placed) → AreFound whole rows
     → filter (λ (p : Placed). not (has_id (gone_ids whole es) p)) rows ≡ filter (λ (p : Placed). has_entry es p.id) rows
 kept_by_entries es whole [] found = refl
 kept_by_entries es whole (p ∷ ps) found =
@@ -105,14 +105,14 @@ none_below _ _ id (Stays p ps es d) from = or_both _ _ (other_above p.id id from
 none_below _ _ id (Turns p ps row es d) from = or_both _ _ (other_above p.id id from.0) (none_below ps es id d from.1)
 
 -- the rows that have entries, as they were
-pub olds : (rows : List Placed) (es : List Entry) → Follow rows es → List Placed
+unfoldable pub olds : (rows : List Placed) (es : List Entry) → Follow rows es → List Placed
 olds _ _ (Ends es new) = []
 olds _ _ (Goes p ps es d) = olds ps es d
 olds _ _ (Stays p ps es d) = p ∷ olds ps es d
 olds _ _ (Turns p ps row es d) = p ∷ olds ps es d
 
 -- the rows that have entries, as those have them
-pub nows : (rows : List Placed) (es : List Entry) → Follow rows es → List Placed
+unfoldable pub nows : (rows : List Placed) (es : List Entry) → Follow rows es → List Placed
 nows _ _ (Ends es new) = []
 nows _ _ (Goes p ps es d) = nows ps es d
 nows _ _ (Stays p ps es d) = p ∷ nows ps es d
@@ -209,7 +209,7 @@ untouched p (r ∷ rs) from =
     kept_head (r.id == p.id) p r (map (replaced_by p) rs) (other_above r.id p.id from.0) ∙ ap (λ (rest : List Placed). r ∷ rest) (untouched p rs from.1)
 
 -- rows below the next id, none below the least
-abbrev AreWithin : ℕ → ℕ → List Placed → Type 0
+abbrev pub AreWithin : ℕ → ℕ → List Placed → Type 0
 AreWithin least next rows = AllByRecursion (λ p. (least ≤ p.id) × (p.id < next)) rows
 
 within_lower : (low high next : ℕ) (ps : List Placed) → low ≤ high → AreWithin high next ps → AreWithin low next ps
@@ -226,13 +226,13 @@ first_stays t (p ∷ ps) r rows next within =
     ∙ first_stays t ps r (map (replaced_by p) rows) next within.1
     ∙ ap (λ (u : Table). tab t next (r ∷ (with_rows ps u).rows)) (sym (row_replaced (tab t next rows) p within.0.1))
 
-touched_none : (es : List Entry) → AreNew es → touched_rows es ≡ []
+pub touched_none : (es : List Entry) → AreNew es → touched_rows es ≡ []
 touched_none [] new = refl
 touched_none (Kept k row ∷ es) new = absurd new
 touched_none (Touched k row ∷ es) new = absurd new
 touched_none (New row ∷ es) new = touched_none es new
 
-touched_within : (rows : List Placed) (es : List Entry) (least next : ℕ) → Follow rows es → IdsRise least rows next → AreWithin least next (touched_rows es)
+pub touched_within : (rows : List Placed) (es : List Entry) (least next : ℕ) → Follow rows es → IdsRise least rows next → AreWithin least next (touched_rows es)
 touched_within _ _ least next (Ends es new) rise = subst (AreWithin least next) (sym (touched_none es new)) tt
 touched_within _ _ least next (Goes p ps es d) rise = within_lower least (p.id + 1) next _ (omega (arith, rise.0)) (touched_within ps es (p.id + 1) next d rise.1)
 touched_within _ _ least next (Stays p ps es d) rise = within_lower least (p.id + 1) next _ (omega (arith, rise.0)) (touched_within ps es (p.id + 1) next d rise.1)
@@ -248,7 +248,7 @@ touched_within _ _ least next (Turns p ps row es d) rise =
 
 -- ---- a table after what entries change of it
 
-olds_from : (rows : List Placed) (es : List Entry) (least : ℕ) → (d : Follow rows es) → AreFrom least rows → AreFrom least (olds rows es d)
+pub olds_from : (rows : List Placed) (es : List Entry) (least : ℕ) → (d : Follow rows es) → AreFrom least rows → AreFrom least (olds rows es d)
 unfolding olds
 olds_from _ _ least (Ends es new) from = tt
 olds_from _ _ least (Goes p ps es d) from = olds_from ps es least d from.1
@@ -281,7 +281,7 @@ new_placed next (Kept k row ∷ es) new = absurd new
 new_placed next (Touched k row ∷ es) new = absurd new
 new_placed next (New row ∷ es) new = ap (λ (rs : List Placed). record { id = next; row = row } ∷ rs) (new_placed (next + 1) es new)
 
-all_placed : (rows : List Placed) (es : List Entry) (next : ℕ) → (d : Follow rows es) → placed next es ≡ nows rows es d ++ placed_from next (added_rows es)
+pub all_placed : (rows : List Placed) (es : List Entry) (next : ℕ) → (d : Follow rows es) → placed next es ≡ nows rows es d ++ placed_from next (added_rows es)
 unfolding nows
 all_placed _ _ next (Ends es new) = new_placed next es new
 all_placed _ _ next (Goes p ps es d) = all_placed ps es next d

@@ -10,7 +10,7 @@ use Rattle.pk_values.specs.Refusals.{first_some}
 use Rattle.pk_values.specs.declared.refusal.Refusal.{Refusal}
 use Rattle.pk_values.specs.declared.changes.Changes.{Changes}
 use Rattle.pk_parse.specs.declared.statement.Statement.{Statement}
-use Rattle.pk_parse.specs.declared.statement.Statement.TheVariants.{Create, Drop, Insert as InsertInto, Update, Delete, Select as SelectFrom}
+use Rattle.pk_parse.specs.declared.statement.Statement.TheVariants.{Create, Drop, Insert as InsertInto, Update, Delete, Select as SelectFrom, Show}
 use Rattle.pk_parse.specs.declared.declaration.TableDecl.{TableDecl}
 use Rattle.pk_parse.specs.declared.declaration.KeyText.{KeyText}
 use Rattle.pk_parse.specs.Declarations.{is_plain, names_of, names_in}
@@ -21,13 +21,14 @@ use Rattle.pk_schema.proofs.ShapeLemmas.{made_shape}
 use Rattle.pk_exec.specs.Entries.{Entry}
 use Rattle.pk_exec.specs.Refusals.{work_insert_refusals, work_update_refusals, work_delete_refusals}
 use Rattle.pk_bind.specs.Select.{select_refusals}
-use Rattle.pk_engine.specs.Base.{Table, is_named, table_named}
+use Rattle.pk_engine.specs.Base.{Table, is_named, table_named, changed_by}
 use Rattle.pk_engine.specs.State.{State, Changed, Made, Dropped, current, with_commit}
 use Rattle.pk_engine.specs.Refusing.{Step, refused_or, decided, about, about_found, table_of}
-use Rattle.pk_engine.specs.Limits.{rows_full, ids_full, tables_full, commits_full, limit_refusals}
+use Rattle.pk_engine.specs.Keys.{key_broken}
+use Rattle.pk_engine.specs.Limits.{rows_full, ids_full, tables_full, commits_full}
 use Rattle.pk_engine.specs.Create.{create_refusals, created, if_found, table_exists}
 use Rattle.pk_engine.specs.Drop.{table_large, drop_refusals, dropped}
-use Rattle.pk_engine.specs.Edits.{changes_in, is_unchanged, commit_refusals, with_changes, entries_in, insert_entries, insert_refusals, inserted, update_entries, update_refusals, updated_rows, delete_refusals, deleted_rows, delete_entries}
+use Rattle.pk_engine.specs.Edits.{changes_in, is_unchanged, change_refusals, commit_refusals, with_changes, entries_in, insert_entries, insert_refusals, inserted, update_entries, update_refusals, updated_rows, delete_refusals, deleted_rows, delete_entries}
 use Rattle.pk_engine.specs.Entries.{AreOf}
 use Rattle.pk_engine.specs.Select.{selected_rows}
 use Rattle.pk_engine.specs.Valid.{IsValid, IsValidTable, names_are_names}
@@ -131,14 +132,15 @@ changed_valid : (st : State) (t : Table) (c : Changes) → IsValid (current st) 
     → IsValid (current (with_changes st t c))
 changed_valid st t c valid good there of free = go (is_unchanged c) free
   where
-    go : (b : Bool) → first_some (if b then [] else limit_refusals st t c) ≡ None → IsValid (current (if b then st else with_commit st (Changed ((t.name, c) ∷ []))))
+    go : (b : Bool) → first_some (if b then [] else change_refusals st t c) ≡ None → IsValid (current (if b then st else with_commit st (Changed ((t.name, c) ∷ []))))
     go true free = valid
     go false free =
         let x = head_free (rows_full st (Changed ((t.name, c) ∷ []))) _ free in
         let y = head_free (ids_full t c) _ x.1 in
-        let z = head_free (commits_full st) [] y.1 in
+        let z = head_free (commits_full st) _ y.1 in
+        let keys = head_free (key_broken (changed_by c t)) [] z.1 in
         subst IsValid (sym (current_more st (Changed ((t.name, c) ∷ []))))
-        (changed_is_valid (current st) t c valid there good of (ids_within t c y.0) (rows_within st t c x.0) (commits_within st z.0))
+        (changed_is_valid (current st) t c valid there good of (ids_within t c y.0) (rows_within st t c x.0) (commits_within st z.0) keys.0)
 
 edit_valid : (st : State) (name : List ℕ) (t : Table) (rs : List (Option Refusal)) (es : List Entry) → IsValid (current st) → table_of st name ≡ Some t
     → (IsValidTable t → first_some rs ≡ None → AreOf t (changes_in t es)) → first_some (rs ++ commit_refusals st t (changes_in t es)) ≡ None
@@ -167,4 +169,5 @@ answer_valid st (Delete d) plain texts names valid =
     (edit_valid st d.table t (work_delete_refusals t.shape 0 t.rows (entries_in t) d) (delete_entries t d) valid found (λ good free. delete_of t d good)))
 answer_valid st (SelectFrom s) plain texts names valid =
     about_keeps (λ x. IsValid (current x)) st s.table _ valid (λ t found. decided_keeps (λ x. IsValid (current x)) st (select_refusals t.shape s) (selected_rows st t s) valid (λ free. valid))
+answer_valid st (Show name) plain texts names valid = about_keeps (λ x. IsValid (current x)) st name _ valid (λ t found. valid)
 answer_valid st _ plain texts names valid = valid

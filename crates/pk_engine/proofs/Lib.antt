@@ -3,6 +3,8 @@ pub mod OrderLemmas
 pub mod TableLemmas
 pub mod RowLemmas
 pub mod EntryLemmas
+pub mod PutLemmas
+pub mod KeyLemmas
 pub mod WorkLemmas
 pub mod AnswerLemmas
 pub mod ValidLemmas
@@ -14,3 +16,4 @@ pub mod KeptLemmas
 pub mod OtherLemmas
 pub mod MadeLemmas
 pub mod ShownLemmas
+pub mod JudgeLemmas

@@ -59,7 +59,7 @@ none_gone [] = refl
 none_gone (p ∷ ps) = ap (λ rest. p ∷ rest) (none_gone ps)
 
 -- a table without changes is as it was
-unchanged_by : (c : Changes) (t : Table) → is_unchanged c ≡ true → changed_by c t ≡ t
+pub unchanged_by : (c : Changes) (t : Table) → is_unchanged c ≡ true → changed_by c t ≡ t
 unfolding changed_by with_rows
 unchanged_by c t same = go c.gone c.put same
   where

@@ -28,7 +28,7 @@ use Rattle.pk_engine.specs.Edits.{is_unchanged, with_changes, changes_in, insert
 use Rattle.pk_engine.specs.Select.{told_as, found, selected_rows}
 use Rattle.pk_engine.specs.Answer.{answer}
 use Rattle.pk_engine.specs.Laws.{SelectsChangeNothing, RefusalsChangeNothing, OtherTablesStay, CreatedTablesAreThere, DroppedTablesAreGone}
-use Rattle.pk_engine.proofs.AnswerLemmas.{about_leaves}
+use Rattle.pk_engine.proofs.AnswerLemmas.{about_leaves, told_leaves}
 use Rattle.pk_engine.proofs.KeptLemmas.{decided_keeps, about_keeps, found_name, head_free, none_exists}
 use Rattle.pk_engine.proofs.RowLemmas.{changed_is_same}
 use Rattle.pk_engine.proofs.StandsLemmas.{current_more}
@@ -72,6 +72,7 @@ refusals_leave st (statements.Insert i) r is = found_leaves st i.table _ r (λ t
 refusals_leave st (statements.Update u) r is = found_leaves st u.table _ r (λ t. refused_leaves st (update_refusals st t u) (updated_rows st t u) r (λ x e. cc)) is
 refusals_leave st (statements.Delete d) r is = found_leaves st d.table _ r (λ t. refused_leaves st (delete_refusals st t d) (deleted_rows st t d) r (λ x e. cc)) is
 refusals_leave st (statements.Select s) r is = found_leaves st s.table _ r (λ t. refused_leaves st (select_refusals t.shape s) (selected_rows st t s) r (told_no_refusal s.what (found t s))) is
+refusals_leave st (statements.Show name) r is = told_leaves st name _ (λ t. refl)
 refusals_leave st _ r is = refl
 
 -- ---- the other tables
@@ -148,6 +149,7 @@ others_stay st (statements.Delete d) name other =
     about_keeps (λ x. table_of x name ≡ table_of st name) st d.table _ refl (λ t is. decided_keeps (λ x. table_of x name ≡ table_of st name) st (delete_refusals st t d) (deleted_rows st t d) refl
     (λ free. changes_leave st t (changes_in t (delete_entries t d)) name (λ e. other (ap Some (sym (found_name st d.table t is) ∙ e)))))
 others_stay st (statements.Select s) name other = ap (λ x. table_of x name) (selects_leave st s)
+others_stay st (statements.Show shown) name other = ap (λ x. table_of x name) (told_leaves st shown _ (λ t. refl))
 others_stay st _ name other = refl
 
 -- ---- what was done, by the reply

@@ -14,10 +14,12 @@ use Rattle.pk_exec.specs.Changes.{added_rows}
 use Rattle.pk_engine.specs.Base.{Base, Table, empty_base, is_named, comes_before, table_named, with_table, without_table, changed_by, change_table, row_count}
 use Rattle.pk_engine.specs.Entries.{placed, AreOf}
 use Rattle.pk_engine.specs.State.{Made, Dropped, Changed, made_table, committed}
+use Rattle.pk_engine.specs.Keys.{key_broken}
 use Rattle.pk_engine.specs.Limits.{most_tables, most_rows, most_ids}
 use Rattle.pk_engine.specs.Valid.{IsValidTable, IsValid}
 use Rattle.pk_engine.proofs.OrderLemmas.{order_with, order_changed, order_without}
 use Rattle.pk_engine.proofs.TableLemmas.{with_table_place}
+use Rattle.pk_engine.proofs.KeyLemmas.{no_rows_hold, unbroken_hold}
 use Rattle.pk_engine.proofs.EntryLemmas.{entries_committed, entries_rise, entries_hold}
 
 -- ---- a table made
@@ -27,7 +29,8 @@ unfolding IsStrictlySortedBy
 empty_base_valid = record { names = tt; tables = All-nil IsValidTable; few_tables = omega arith; few_rows = omega arith; few_commits = omega arith }
 
 made_valid : (name : List ℕ) (s : Shape) → IsShape s → IsValidTable (made_table name s)
-made_valid name s shape = record { shape = shape; ids = omega arith; rows = All-nil (λ (p : Placed). Admits s p.row); next = omega arith }
+made_valid name s shape =
+    record { shape = shape; ids = omega arith; rows = All-nil (λ (p : Placed). Admits s p.row); next = omega arith; keys = no_rows_hold s shape }
 
 tables_with : (t : Table) (ts : List Table) → IsValidTable t → All IsValidTable ts → All IsValidTable (with_table t ts)
 tables_with t ts valid all =
@@ -104,17 +107,34 @@ dropped_is_valid b name valid commits = record {
 
 -- ---- rows changed
 
--- a table is valid after changes that entries make of it, where its ids have room
-pub changed_table_valid : (t : Table) (c : Changes) → IsValidTable t → AreOf t c → (changed_by c t).next ≤ most_ids → IsValidTable (changed_by c t)
-changed_table_valid t c valid of room =
+-- what entries make of a table
+abbrev made_by : Table → List Entry → Table
+made_by t es = record t { next = t.next + length (added_rows es); rows = placed t.next es }
+
+made_is : (t : Table) (c : Changes) → IsValidTable t → (of : AreOf t c) → changed_by c t ≡ made_by t of.0
+made_is t c valid of = ap (λ (d : Changes). changed_by d t) of.3 ∙ entries_committed t of.0 valid.ids of.1
+
+made_admitted : (t : Table) (es : List Entry) → All (λ (e : Entry). Admits t.shape (row_in e)) es → All (λ (p : Placed). Admits t.shape p.row) (placed t.next es)
+made_admitted t es all =
+    All-from_recursion (λ (p : Placed). Admits t.shape p.row) (placed t.next es)
+    (entries_hold (Admits t.shape) es t.next (recursion_from_All (λ (e : Entry). Admits t.shape (row_in e)) es all))
+
+-- the schema of a table after such changes, and that it admits the rows
+pub changed_admitted : (t : Table) (c : Changes) → IsValidTable t → AreOf t c → IsShape (changed_by c t).shape × All (λ (p : Placed). Admits (changed_by c t).shape p.row) (changed_by c t).rows
+changed_admitted t c valid of =
+    subst (λ (u : Table). IsShape u.shape × All (λ (p : Placed). Admits u.shape p.row) u.rows) (sym (made_is t c valid of)) (valid.shape, made_admitted t of.0 of.2)
+
+-- a table is valid after changes that entries make of it, where its ids have room and no key is broken
+pub changed_table_valid : (t : Table) (c : Changes) → IsValidTable t → AreOf t c → (changed_by c t).next ≤ most_ids → key_broken (changed_by c t) ≡ None → IsValidTable (changed_by c t)
+changed_table_valid t c valid of room free =
     let es = of.0 in
-    let is : changed_by c t ≡ record t { next = t.next + length (added_rows es); rows = placed t.next es } = ap (λ (d : Changes). changed_by d t) of.3 ∙ entries_committed t es valid.ids of.1 in
+    let is = made_is t c valid of in
     subst IsValidTable (sym is) record {
       shape = valid.shape;
       ids = entries_rise t.rows es 1 t.next of.1 valid.ids;
-      rows = All-from_recursion (λ (p : Placed). Admits t.shape p.row) (placed t.next es)
-          (entries_hold (Admits t.shape) es t.next (recursion_from_All (λ (e : Entry). Admits t.shape (row_in e)) es of.2));
+      rows = made_admitted t es of.2;
       next = subst (λ (u : Table). u.next ≤ most_ids) is room;
+      keys = unbroken_hold (made_by t es) valid.shape (made_admitted t es of.2) (subst (λ (u : Table). key_broken u ≡ None) is free);
     }
 
 changed_all : (P : Table → Type 0) (name : List ℕ) (c : Changes) (ts : List Table) → AllByRecursion P ts → ((t : Table) → table_named name ts ≡ Some t → P t → P (changed_by c t))
@@ -136,13 +156,13 @@ length-change_table name c (t ∷ ts) = elim (is_named name t) as (λ b. length 
   | false ↦ ap suc (length-change_table name c ts)
 ]
 
--- a base is valid after changes of one table, where the limits have room
+-- a base is valid after changes of one table, where the limits have room and no key is broken
 pub changed_is_valid : (b : Base) (t : Table) (c : Changes) → IsValid b → table_named t.name b.tables ≡ Some t → IsValidTable t → AreOf t c → (changed_by c t).next ≤ most_ids
-    → row_count (committed b (Changed ((t.name, c) ∷ []))) ≤ most_rows → b.commit < most_ids → IsValid (committed b (Changed ((t.name, c) ∷ [])))
-changed_is_valid b t c valid there good of ids rows commits = record {
+    → row_count (committed b (Changed ((t.name, c) ∷ []))) ≤ most_rows → b.commit < most_ids → key_broken (changed_by c t) ≡ None → IsValid (committed b (Changed ((t.name, c) ∷ [])))
+changed_is_valid b t c valid there good of ids rows commits keys = record {
   names = order_changed t.name c b.tables valid.names;
   tables = All-from_recursion IsValidTable (change_table t.name c b.tables) (changed_all IsValidTable t.name c b.tables (recursion_from_All IsValidTable b.tables valid.tables)
-      (λ u found kept. subst (λ (v : Table). IsValidTable (changed_by c v)) (same_some t u (sym there ∙ found)) (changed_table_valid t c good of ids)));
+      (λ u found kept. subst (λ (v : Table). IsValidTable (changed_by c v)) (same_some t u (sym there ∙ found)) (changed_table_valid t c good of ids keys)));
   few_tables = rw (length-change_table t.name c b.tables) valid.few_tables;
   few_rows = rows;
   few_commits = omega (arith, commits);

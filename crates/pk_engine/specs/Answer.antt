@@ -1,6 +1,6 @@
 use Rattle.std.specs.Prelude.{Bool, true, false}
 use Rattle.pk_parse.specs.declared.statement.Statement.{Statement}
-use Rattle.pk_parse.specs.declared.statement.Statement.TheVariants.{Create, Drop, Insert as InsertInto, Update, Delete, Select as SelectFrom}
+use Rattle.pk_parse.specs.declared.statement.Statement.TheVariants.{Create, Drop, Insert as InsertInto, Update, Delete, Select as SelectFrom, Show}
 use Rattle.pk_report.specs.declared.reply.Reply.TheVariants.{CommittedNothing}
 use Rattle.pk_bind.specs.Select.{select_refusals}
 use Rattle.pk_engine.specs.State.{State}
@@ -9,6 +9,7 @@ use Rattle.pk_engine.specs.Create.{create_refusals, created}
 use Rattle.pk_engine.specs.Drop.{drop_refusals, dropped}
 use Rattle.pk_engine.specs.Edits.{insert_refusals, inserted, update_refusals, updated_rows, delete_refusals, deleted_rows}
 use Rattle.pk_engine.specs.Select.{selected_rows}
+use Rattle.pk_engine.specs.Show.{shown_table}
 
 -- a statement that isn't answered yet leaves the state, and nobody asks for its reply
 abbrev pub unanswered : State → Step
@@ -22,6 +23,7 @@ answer st (InsertInto i) = about st i.table (λ t. decided st (insert_refusals s
 answer st (Update u) = about st u.table (λ t. decided st (update_refusals st t u) (updated_rows st t u))
 answer st (Delete d) = about st d.table (λ t. decided st (delete_refusals st t d) (deleted_rows st t d))
 answer st (SelectFrom s) = about st s.table (λ t. decided st (select_refusals t.shape s) (selected_rows st t s))
+answer st (Show name) = about st name (λ t. shown_table st t)
 answer st _ = unanswered st
 
 -- the statements that the engine answers
@@ -32,4 +34,5 @@ is_answered (InsertInto i) = true
 is_answered (Update u) = true
 is_answered (Delete d) = true
 is_answered (SelectFrom s) = true
+is_answered (Show name) = true
 is_answered _ = false

@@ -14,10 +14,11 @@ use Rattle.pk_exec.specs.Changes.{changes_of}
 use Rattle.pk_exec.specs.Refusals.{work_insert_refusals, work_update_refusals, work_delete_refusals}
 use Rattle.pk_report.specs.declared.reply.Reply.{Reply}
 use Rattle.pk_report.specs.declared.reply.Reply.TheVariants.{Inserted, Updated, Deleted}
-use Rattle.pk_engine.specs.Base.{Table}
+use Rattle.pk_engine.specs.Base.{Table, changed_by}
 use Rattle.pk_engine.specs.State.{State, with_commit, Changed}
 use Rattle.pk_engine.specs.Refusing.{Step}
 use Rattle.pk_engine.specs.Limits.{limit_refusals}
+use Rattle.pk_engine.specs.Keys.{key_broken}
 
 -- the rows of the table, as a transaction that has changed none of them sees them
 abbrev pub entries_in : Table → List Entry
@@ -35,9 +36,13 @@ is_empty (x ∷ xs) = false
 abbrev pub is_unchanged : Changes → Bool
 is_unchanged c = is_empty c.gone && is_empty c.put
 
--- what the commit of changes is refused for
+-- what changes of a table are refused for, in this order: the limits of the base, and the keys of the table as it would be
+abbrev pub change_refusals : State → Table → Changes → List (Option Refusal)
+change_refusals st t c = limit_refusals st t c ++ (key_broken (changed_by c t) ∷ [])
+
+-- what the commit of changes is refused for; where nothing changes, there is no commit
 abbrev pub commit_refusals : State → Table → Changes → List (Option Refusal)
-commit_refusals st t c = if is_unchanged c then [] else limit_refusals st t c
+commit_refusals st t c = if is_unchanged c then [] else change_refusals st t c
 
 -- the state with changes of a table committed; without a change there is no commit
 abbrev pub with_changes : State → Table → Changes → State

@@ -6,11 +6,14 @@ pub mod Refusing
 pub mod Limits
 pub mod Create
 pub mod Drop
+pub mod Keys
 pub mod Edits
 pub mod Entries
 pub mod Select
+pub mod Show
 pub mod Outcome
 pub mod Answer
 pub mod Valid
 pub mod Stands
 pub mod Laws
+pub mod KeyLaws

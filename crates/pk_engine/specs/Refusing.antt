@@ -17,9 +17,13 @@ abbrev pub when : Bool → Refusal → Option Refusal
 when true r = Some r
 when false r = None
 
+-- a refusal that leaves this state
+abbrev pub refused : State → Refusal → Step
+refused left r = record { reply = Refused r; next = left }
+
 -- a refusal that leaves this state, or the answer where none stands
 abbrev pub refused_or : State → Option Refusal → Step → Step
-refused_or left (Some r) done = record { reply = Refused r; next = left }
+refused_or left (Some r) done = refused left r
 refused_or left None done = done
 
 -- what is answered: the first refusal of the list that stands, else what is done

@@ -9,16 +9,18 @@ use Rattle.pk_schema.specs.Shapes.{IsShape}
 use Rattle.pk_schema.specs.Admits.{Admits}
 use Rattle.pk_engine.specs.Base.{Table, Base, IsInNameOrder, row_count}
 use Rattle.pk_engine.specs.Rows.{IdsRise}
+use Rattle.pk_engine.specs.Keys.{KeepsKeys}
 use Rattle.pk_engine.specs.Limits.{most_tables, most_rows, most_ids}
 use Rattle.pk_engine.specs.State.{State, current}
 use Rattle.pk_engine.specs.Answer.{answer}
 
--- a table whose ids rise from 1 on and stay below its next one, and whose rows its schema admits
+-- a table whose ids rise from 1 on and stay below its next one, whose rows its schema admits, and whose keys hold over all completions
 pub record IsValidTable (t : Table) : Type 0 where
   pub shape : IsShape t.shape
   pub ids : IdsRise 1 t.rows t.next
   pub rows : All (λ p. Admits t.shape p.row) t.rows
   pub next : t.next ≤ most_ids
+  pub keys : KeepsKeys t
 
 -- a base of valid tables in the order of their names, within the limits
 pub record IsValid (b : Base) : Type 0 where

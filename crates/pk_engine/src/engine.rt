@@ -11,6 +11,7 @@ mod drop_table;
 mod edit;
 mod limits;
 mod select;
+mod show;
 
 /// The base, and the answers to statements over it.
 #[derive(Debug, Drop)]
@@ -65,11 +66,11 @@ impl Engine {
             Statement::Update(update) => self.update(update),
             Statement::Delete(delete) => self.delete(delete),
             Statement::Select(select) => self.select(select),
+            Statement::Show { table } => self.show(table),
             Statement::Begin
             | Statement::Commit
             | Statement::Rollback
             | Statement::Session { .. }
-            | Statement::Show { .. }
             | Statement::Implies { .. }
             | Statement::Cover { .. }
             | Statement::Examples { .. }

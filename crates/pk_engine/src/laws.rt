@@ -3,6 +3,7 @@
 
 ghost use Rattle.pk_engine.specs.Base.{empty_base};
 ghost use Rattle.pk_engine.specs.Valid.{IsValid, AnswersKeepValid};
+ghost use Rattle.pk_engine.specs.KeyLaws.{KeysAreJudgedByCompletions};
 ghost use Rattle.pk_engine.specs.Laws.{SelectsChangeNothing, RefusalsChangeNothing, OtherTablesStay, CreatedTablesAreThere, DroppedTablesAreGone, InsertsAddRows, UpdatesSetRows, OtherColumnsStay, SetColumnsAreSet, DeletesLeaveTheRest, EntriesAreCommitted, SelectsTellTheirRows, WholeRowsAreTold, RowsArePutInOrder, CountsAreOfTheRowsShown};
 
 /// From the empty base on, every base is within its limits and has its tables in strict byte order of
@@ -72,4 +73,12 @@ pub fn selects_tell_their_rows()
 /// ORDER BY only moves rows, puts them in order, and leaves those that tie as they stood.
 pub fn rows_are_put_in_order()
     ensures { RowsArePutInOrder }
+{}
+
+/// An INSERT, UPDATE or DELETE that nothing else refuses is refused for a key exactly where some declared
+/// key fails over all completions of the whole table as it would be, and is done where all hold. What a
+/// refusal shows are two rows of that table which agree on the key's columns in the values shown: in some
+/// completion for a certain key, as they are for a possible one.
+pub fn keys_are_judged_by_completions()
+    ensures { KeysAreJudgedByCompletions }
 {}

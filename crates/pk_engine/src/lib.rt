@@ -4,6 +4,7 @@
 #![tactic(auto)]
 
 mod engine;
+mod keys;
 mod laws;
 mod outcome;
 mod rows;
@@ -12,9 +13,9 @@ mod table;
 pub use engine::Engine;
 pub use laws::{
     answers_keep_bases_valid, deletes_leave_the_rest, entries_are_committed, inserts_add_rows,
-    refusals_change_nothing, rows_are_put_in_order, selects_change_nothing,
-    selects_tell_their_rows, set_rows_keep_other_columns, statements_leave_other_tables,
-    tables_are_made_and_dropped, updates_set_rows,
+    keys_are_judged_by_completions, refusals_change_nothing, rows_are_put_in_order,
+    selects_change_nothing, selects_tell_their_rows, set_rows_keep_other_columns,
+    statements_leave_other_tables, tables_are_made_and_dropped, updates_set_rows,
 };
 
 #[cfg(test)]

@@ -1,12 +1,16 @@
 ghost use Rattle.std.specs.Prelude.{◌≡◌, ◌≤◌, length, map, filter, nat_le, IfOk, OnOk, IsTrue, ◌&&◌};
 ghost use Rattle.std.specs.List.{list_all, list_any};
+ghost use Rattle.std.specs.Option.{option_map};
+ghost use Rattle.pk_engine.specs.Keys.{key_refusal};
 
+use crate::keys::key_refusal;
 use crate::outcome::Outcome;
 use crate::rows::{replace, take_out};
 use pk_exec::{ExecErr, InsertErr, ListView, Selected, Work};
-use pk_parse::{Delete, Insert, Select, Update};
+use pk_guard::{BuildErr, Guard};
+use pk_parse::{Delete, Insert, Select, Update, print_table};
 use pk_schema::Schema;
-use pk_values::{Changes, Items, Memory, Name, Placed};
+use pk_values::{Break, Bytes, Changes, Items, Memory, Name, Placed, Refusal};
 use std::alloc::Global;
 use std::cmp::Ordering;
 use std::marker::Model;
@@ -19,6 +23,8 @@ const TABLE: u32 = 1;
 pub struct Stored {
     name: Name,
     schema: Schema,
+    // Of the keys of `schema` over `rows`.
+    guard: Guard,
     next: u64,
     rows: Vec<Placed>,
 }
@@ -42,7 +48,11 @@ impl Stored {
     ghost use Rattle.pk_exec.specs.Edits.{taken};
     ghost use Rattle.pk_exec.specs.Refusals.{work_insert_refusals, work_update_refusals, work_delete_refusals};
     ghost use Rattle.pk_exec.specs.Works.{Covers, Fits, entries_of};
+    ghost use Rattle.pk_parse.specs.Printing.{table_text};
+    ghost use Rattle.pk_schema.specs.Shapes.{decl_of};
     ghost use Rattle.pk_engine.specs.Base.{with_row, with_rows, changed_by};
+    ghost use Rattle.pk_engine.specs.Entries.{AreOf};
+    ghost use Rattle.pk_engine.specs.Keys.{key_broken};
     ghost use Rattle.pk_engine.specs.Rows.{IdsRise, IdsAscend};
     ghost use Rattle.pk_engine.specs.State.{made_table};
     ghost use Rattle.pk_engine.specs.Valid.{IsValidTable};
@@ -51,15 +61,17 @@ impl Stored {
     ghost use Rattle.pk_engine.specs.Outcome.{IsDone};
 
     /// A new table, without a row.
-    pub fn make(alloc: Global, name: Name, schema: Schema) -> Stored
-        ensures { result ≡ made_table name schema }
+    pub fn make(alloc: Global, name: Name, schema: Schema) -> Result<Stored, Memory>
+        ensures { IfOk result (λ table. table ≡ made_table name schema) }
     {
-        Stored {
+        let guard = guard_of_none(alloc, &schema)?;
+        Ok(Stored {
             name,
             schema,
+            guard,
             next: 1,
             rows: Vec::new(alloc),
-        }
+        })
     }
 
     /// How the table's name compares with this one, byte by byte.
@@ -157,6 +169,25 @@ impl Stored {
         work.select(&self.schema, TABLE, &mut view, select)
     }
 
+    /// What changes of the table are refused for by its keys, which are judged on the rows as they would be.
+    pub fn broken_key(&self, changes: &Changes) -> Result<Option<Refusal>, Memory>
+        requires valid { IsValidTable self.now }
+        requires of { AreOf self.now changes.now }
+        ensures { IfOk result (λ r. r ≡ key_broken (changed_by changes.now self.now)) }
+    {
+        let alloc = *self.rows.allocator();
+        let rows = self.rows.as_slice();
+        let broken = self.guard.first_break(alloc, &self.schema, rows, changes)?;
+        refusal_of(&self.name, broken)
+    }
+
+    /// The canonical text of the table's declaration.
+    pub fn text(&self) -> Result<Bytes, Memory>
+        ensures { IfOk result (λ bytes. bytes ≡ table_text (decl_of self.now.name self.now.shape)) }
+    {
+        print_table(*self.rows.allocator(), &self.schema.decl(&self.name)?)
+    }
+
     /// Makes the changes. Rows that go are taken out in one walk, and only where there are any; each row
     /// that is put costs a search at most.
     #[tactic(auto, unfolding(crate::specs::Base::changed_by))]
@@ -199,5 +230,24 @@ impl Stored {
         self.rows.push(placed)?;
         self.next = next;
         Ok(())
+    }
+}
+
+// The guard of a table without rows, which break no key.
+fn guard_of_none(alloc: Global, schema: &Schema) -> Result<Guard, Memory> {
+    match Guard::build(alloc, schema, &[]) {
+        Ok(guard) => Ok(guard),
+        Err(BuildErr::Broken(_)) => unreachable!(),
+        Err(BuildErr::Memory) => Err(Memory),
+    }
+}
+
+// The refusal that shows the break, if there is one, of a key of the table of this name.
+fn refusal_of(table: &Name, broken: Option<Break>) -> Result<Option<Refusal>, Memory>
+    ensures { IfOk result (λ r. r ≡ option_map (key_refusal table.now) broken) }
+{
+    match broken {
+        Some(broken) => Ok(Some(key_refusal(table.copy()?, broken))),
+        None => Ok(None),
     }
 }

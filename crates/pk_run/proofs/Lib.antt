@@ -1,2 +1,3 @@
 pub mod ServedIsAnswered
 pub mod Runs
+pub mod KeyLaw

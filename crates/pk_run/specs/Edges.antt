@@ -110,7 +110,7 @@ pub record RunsAtTheirEdges : Type 0 where
   pub counted : Tells (codes "CREATE TABLE t (a INTEGER, b INTEGER); INSERT INTO t VALUES (1); INSERT INTO t VALUES (1, 2, 3)") (codes "created t" ∷ codes "refused: 1 values for 2 columns" ∷ codes "refused: 3 values for 2 columns" ∷ [])
   pub zero : Tells (codes "CREATE TABLE t (a INTEGER); INSERT INTO t VALUES (0); SELECT * FROM t") (codes "created t" ∷ codes "inserted 1" ∷ codes "a" ∷ codes "0" ∷ codes "rows 1" ∷ [])
   pub fault_on_a_later_line : Tells (codes "SELECT *" ++ 10 ∷ codes "FROM $") (codes "refused: bad character on line 2" ∷ [])
-  pub unserved_first : Tells (codes "SHOW CREATE TABLE u") (codes "refused: not a statement on line 1" ∷ [])
+  pub unserved_first : Tells (codes "IMPLIES u CERTAIN KEY (a)") (codes "refused: not a statement on line 1" ∷ [])
   pub twice_named : Tells (codes "CREATE TABLE t (a INTEGER, b INTEGER, a INTEGER)") (codes "refused: column a twice" ∷ [])
   pub past_64_bits : Tells (codes "CREATE TABLE t (a INTEGER); INSERT INTO t VALUES (9223372036854775808); INSERT INTO t VALUES (9223372036854775807); SELECT * FROM t") (codes "created t" ∷ codes "refused: number outside 64 bits" ∷ codes "inserted 1" ∷ codes "a" ∷ codes "9223372036854775807" ∷ codes "rows 1" ∷ [])
   pub ordered : Tells (codes "CREATE TABLE b (x INTEGER); CREATE TABLE a (y INTEGER); INSERT INTO b VALUES (1); INSERT INTO b VALUES (2); SELECT * FROM b; SELECT * FROM a") (codes "created b" ∷ codes "created a" ∷ codes "inserted 1" ∷ codes "inserted 1" ∷ codes "x" ∷ codes "1" ∷ codes "2" ∷ codes "rows 2" ∷ codes "y" ∷ codes "rows 0" ∷ [])
@@ -126,6 +126,15 @@ pub record EditsAtTheirEdges : Type 0 where
   pub dropped : Tells (codes "CREATE TABLE t (a INT); DROP TABLE t; SELECT * FROM t") (codes "created t" ∷ codes "dropped t" ∷ codes "refused: no table t" ∷ [])
   pub long_name : Tells (codes "CREATE TABLE t (a234567890123456789012345678901 INT)") (codes "refused: limit name 30" ∷ [])
 
+-- keys: the least break of two, nulls that agree in a completion and not as they are, no column, a row that is set to what it has
+pub record KeysAtTheirEdges : Type 0 where
+  pub certain : Tells (codes "CREATE TABLE t (a INT, b TEXT, CERTAIN KEY (a, b)); INSERT INTO t VALUES (NULL, NULL); INSERT INTO t VALUES (NULL, 'x')") (codes "created t" ∷ codes "inserted 1" ∷ codes "refused: certain key 1 of t: rows 1 and 2 agree in the completion (0, 'x')" ∷ [])
+  pub possible : Tells (codes "CREATE TABLE t (a INT, b INT, UNIQUE (a, b)); INSERT INTO t VALUES (1, NULL), (1, NULL); INSERT INTO t VALUES (1, 2), (1, 2)") (codes "created t" ∷ codes "inserted 2" ∷ codes "refused: possible key 1 of t: rows 3 and 4 agree on (1, 2)" ∷ [])
+  pub empty : Tells (codes "CREATE TABLE t (a INT, CERTAIN KEY ()); INSERT INTO t VALUES (1); INSERT INTO t VALUES (2)") (codes "created t" ∷ codes "inserted 1" ∷ codes "refused: certain key 1 of t: rows 1 and 2 agree in the completion ()" ∷ [])
+  pub two_at_once : Tells (codes "CREATE TABLE t (a INT, b INT, UNIQUE (a), CERTAIN KEY (b)); INSERT INTO t VALUES (1, 1), (2, 1), (1, 1)") (codes "created t" ∷ codes "refused: possible key 1 of t: rows 1 and 3 agree on (1)" ∷ [])
+  pub as_they_would_be : Tells (codes "CREATE TABLE t (a INT, CERTAIN KEY (a)); INSERT INTO t VALUES (1); UPDATE t SET a = 1; INSERT INTO t VALUES (1)") (codes "created t" ∷ codes "inserted 1" ∷ codes "updated 1" ∷ codes "refused: certain key 1 of t: rows 1 and 2 agree in the completion (1)" ∷ [])
+  pub shown : Tells (codes "CREATE TABLE t (a INT PRIMARY KEY, b VARCHAR(9), UNIQUE (b, a)); SHOW CREATE TABLE t") (codes "created t" ∷ codes "CREATE TABLE t (a INTEGER NOT NULL, b VARCHAR(9), CERTAIN KEY (a), POSSIBLE KEY (a, b));" ∷ [])
+
 -- the definitions at their edges
 pub record EdgesAreTold : Type 0 where
   pub limits : LimitsInDigits
@@ -140,3 +149,4 @@ pub record EdgesAreTold : Type 0 where
   pub refusals : RefusalsAtTheirEdges
   pub runs : RunsAtTheirEdges
   pub edits : EditsAtTheirEdges
+  pub keys : KeysAtTheirEdges

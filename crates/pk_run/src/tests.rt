@@ -34,7 +34,7 @@ fn run(
 
 #[test]
 fn scripts_are_answered(rt: HostRuntime) -> Result<(), Fail> {
-    let cases: [(&[u8], Status, &[u8]); 34] = [
+    let cases: [(&[u8], Status, &[u8]); 32] = [
         (b"", Status::Done, b""),
         (b" \t\r\n ;;\n; ", Status::Done, b""),
         (FIRST, Status::Done, FIRST_TOLD),
@@ -165,17 +165,7 @@ fn scripts_are_answered(rt: HostRuntime) -> Result<(), Fail> {
         ),
         // Read, and not answered yet.
         (
-            b"CREATE TABLE t (a INT NOT NULL);",
-            Status::Refused,
-            b"refused: not a statement on line 1\n",
-        ),
-        (
-            b"CREATE TABLE t (a INT, CERTAIN KEY (a));",
-            Status::Refused,
-            b"refused: not a statement on line 1\n",
-        ),
-        (
-            b"CREATE TABLE t (a INT); BEGIN; SHOW CREATE TABLE t; IMPLIES t CERTAIN KEY (a);",
+            b"CREATE TABLE t (a INT); BEGIN; IMPLIES t CERTAIN KEY (a); COVER OF t;",
             Status::Refused,
             b"created t\nrefused: not a statement on line 1\nrefused: not a statement on line 1\nrefused: not a statement on line 1\n",
         ),
@@ -265,6 +255,237 @@ fn a_table_has_at_most_32_columns(rt: HostRuntime) -> Result<(), Fail> {
         more.1.as_slice(),
         b"refused: limit columns 32\n".as_slice()
     );
+    Ok(())
+}
+
+#[test]
+fn keys_are_judged(rt: HostRuntime) -> Result<(), Fail> {
+    let cases: [(&[u8], &[u8]); 20] = [
+        // A certain key is broken where some completion has two rows agree, a possible one where each has.
+        (
+            b"CREATE TABLE t (a INT, b INT, CERTAIN KEY (a, b)); INSERT INTO t VALUES (1, NULL); INSERT INTO t VALUES (NULL, 2); SELECT COUNT(*) FROM t;",
+            b"created t\ninserted 1\nrefused: certain key 1 of t: rows 1 and 2 agree in the completion (1, 2)\ncount\n1\nrows 1\n",
+        ),
+        (
+            b"CREATE TABLE t (a INT, b INT, POSSIBLE KEY (a, b)); INSERT INTO t VALUES (1, NULL); INSERT INTO t VALUES (NULL, 2); INSERT INTO t VALUES (1, 2); INSERT INTO t VALUES (1, 2);",
+            b"created t\ninserted 1\ninserted 1\ninserted 1\nrefused: possible key 1 of t: rows 3 and 4 agree on (1, 2)\n",
+        ),
+        (
+            b"CREATE TABLE t (a INT, b INT, POSSIBLE KEY (a, b)); INSERT INTO t VALUES (NULL, NULL); INSERT INTO t VALUES (NULL, NULL);",
+            b"created t\ninserted 1\ninserted 1\n",
+        ),
+        (
+            b"CREATE TABLE t (a INT, b TEXT, CERTAIN KEY (a, b)); INSERT INTO t VALUES (NULL, NULL); INSERT INTO t VALUES (NULL, NULL);",
+            b"created t\ninserted 1\nrefused: certain key 1 of t: rows 1 and 2 agree in the completion (0, '')\n",
+        ),
+        // The empty key allows one row.
+        (
+            b"CREATE TABLE t (a INT, CERTAIN KEY ()); INSERT INTO t VALUES (1); INSERT INTO t VALUES (2); DELETE FROM t; INSERT INTO t VALUES (2);",
+            b"created t\ninserted 1\nrefused: certain key 1 of t: rows 1 and 2 agree in the completion ()\ndeleted 1\ninserted 1\n",
+        ),
+        (
+            b"CREATE TABLE t (a INT, POSSIBLE KEY ()); INSERT INTO t VALUES (NULL), (NULL);",
+            b"created t\nrefused: possible key 1 of t: rows 1 and 2 agree on ()\n",
+        ),
+        // NOT NULL comes before the keys, whatever gives the null.
+        (
+            b"CREATE TABLE t (a INT NOT NULL, b INT); INSERT INTO t (b) VALUES (1); INSERT INTO t VALUES (NULL, 1); INSERT INTO t VALUES (2, 1); UPDATE t SET a = NULL; SELECT * FROM t;",
+            b"created t\nrefused: null in column a\nrefused: null in column a\ninserted 1\nrefused: null in column a\na|b\n2|1\nrows 1\n",
+        ),
+        (
+            b"CREATE TABLE t (a INT PRIMARY KEY, b INT, CERTAIN KEY (b)); INSERT INTO t VALUES (1, 2); INSERT INTO t VALUES (NULL, 2); INSERT INTO t VALUES (1, 3);",
+            b"created t\ninserted 1\nrefused: null in column a\nrefused: certain key 1 of t: rows 1 and 2 agree in the completion (1)\n",
+        ),
+        // Rows of one statement may break a key among themselves; of all breaks the least is told, and no id is used up.
+        (
+            b"CREATE TABLE t (a INT, CERTAIN KEY (a)); INSERT INTO t VALUES (5), (6), (5); INSERT INTO t VALUES (3), (1), (3), (1); INSERT INTO t VALUES (5); INSERT INTO t VALUES (6), (5);",
+            b"created t\nrefused: certain key 1 of t: rows 1 and 3 agree in the completion (5)\nrefused: certain key 1 of t: rows 1 and 3 agree in the completion (3)\ninserted 1\nrefused: certain key 1 of t: rows 1 and 3 agree in the completion (5)\n",
+        ),
+        (
+            b"CREATE TABLE t (a INT UNIQUE, b INT, CERTAIN KEY (b)); INSERT INTO t VALUES (1, 1), (2, 2); INSERT INTO t VALUES (2, 1); INSERT INTO t VALUES (NULL, 2);",
+            b"created t\ninserted 2\nrefused: possible key 1 of t: rows 2 and 3 agree on (2)\nrefused: certain key 2 of t: rows 2 and 3 agree in the completion (2)\n",
+        ),
+        (
+            b"CREATE TABLE t (a INT, CERTAIN KEY (a), CERTAIN KEY (a)); INSERT INTO t VALUES (1); INSERT INTO t VALUES (1);",
+            b"created t\ninserted 1\nrefused: certain key 1 of t: rows 1 and 2 agree in the completion (1)\n",
+        ),
+        // Rows are judged as they would be: a row that is set or goes stands in nobody's way.
+        (
+            b"CREATE TABLE t (a INT, b INT, CERTAIN KEY (a), CERTAIN KEY (b)); INSERT INTO t VALUES (1, 2); UPDATE t SET a = 2, b = 1; SELECT * FROM t;",
+            b"created t\ninserted 1\nupdated 1\na|b\n2|1\nrows 1\n",
+        ),
+        (
+            b"CREATE TABLE t (a INT, b INT, CERTAIN KEY (a)); INSERT INTO t VALUES (1, 1), (2, 1), (3, 2); UPDATE t SET a = 7 WHERE b = 1; UPDATE t SET a = NULL WHERE b = 2; DELETE FROM t WHERE b = 1; UPDATE t SET a = NULL; SELECT * FROM t;",
+            b"created t\ninserted 3\nrefused: certain key 1 of t: rows 1 and 2 agree in the completion (7)\nrefused: certain key 1 of t: rows 1 and 3 agree in the completion (1)\ndeleted 2\nupdated 1\na|b\nNULL|2\nrows 1\n",
+        ),
+        // UNIQUE lets nulls through.
+        (
+            b"CREATE TABLE t (s TEXT UNIQUE); INSERT INTO t VALUES ('x'), (NULL), (NULL); INSERT INTO t VALUES ('x'); SELECT COUNT(*) FROM t;",
+            b"created t\ninserted 3\nrefused: possible key 1 of t: rows 1 and 4 agree on ('x')\ncount\n3\nrows 1\n",
+        ),
+        // A certain key has at most five columns that may be null, wherever NOT NULL stands.
+        (
+            b"CREATE TABLE t (a INT, b INT, c INT, d INT, e INT, CERTAIN KEY (a, b, c, d, e));",
+            b"created t\n",
+        ),
+        (
+            b"CREATE TABLE t (a INT, b INT, c INT, d INT, e INT, f INT, CERTAIN KEY (a, b, c, d, e, f)); CREATE TABLE t (a INT, b INT, c INT, d INT, e INT, f INT, POSSIBLE KEY (a, b, c, d, e, f));",
+            b"refused: limit nullable columns 5\ncreated t\n",
+        ),
+        (
+            b"CREATE TABLE t (CERTAIN KEY (a, b, c, d, e, f), a INT, b INT, c INT, d INT, e INT, f INT NOT NULL);",
+            b"created t\n",
+        ),
+        (
+            b"CREATE TABLE t (a INT, CERTAIN KEY (b)); CREATE TABLE t (a INT, CERTAIN KEY (a, a)); CREATE TABLE t (a INT, UNIQUE (a, b, a)); SHOW CREATE TABLE t;",
+            b"refused: no column b in t\nrefused: column a twice\nrefused: no column b in t\nrefused: no table t\n",
+        ),
+        // The canonical text, which reads back as the same table.
+        (
+            b"CREATE TABLE contacts (id INTEGER PRIMARY KEY, email VARCHAR(80) UNIQUE,\n name TEXT NOT NULL, city TEXT, phone TEXT, CERTAIN KEY (phone, name, city));\nSHOW CREATE TABLE contacts;",
+            b"created contacts\nCREATE TABLE contacts (id INTEGER NOT NULL, email VARCHAR(80), name TEXT NOT NULL, city TEXT, phone TEXT, CERTAIN KEY (id), POSSIBLE KEY (email), CERTAIN KEY (name, city, phone));\n",
+        ),
+        (
+            b"CREATE TABLE t (a INT, CERTAIN KEY (), UNIQUE ()); SHOW CREATE TABLE t; DROP TABLE t; SHOW CREATE TABLE t",
+            b"created t\nCREATE TABLE t (a INTEGER, CERTAIN KEY (), POSSIBLE KEY ());\ndropped t\nrefused: no table t\n",
+        ),
+    ];
+    for (script, told) in cases {
+        let got = run(rt.alloc(), script, 4096, &[], &[])?;
+        assert_eq!(rt; got.1.as_slice(), told);
+    }
+    Ok(())
+}
+
+#[test]
+fn a_table_has_at_most_32_keys(rt: HostRuntime) -> Result<(), Fail> {
+    let alloc = rt.alloc();
+    for (keys, told) in [
+        (32, b"created t\n".as_slice()),
+        (33, b"refused: limit keys 32\n"),
+    ] {
+        let mut script = b"CREATE TABLE t (a INT".to_vec(alloc)?;
+        repeat(&mut script, b", UNIQUE (a)", keys)?;
+        script.extend_from_slice(b")")?;
+        let got = run(alloc, &script, 4096, &[], &[])?;
+        assert_eq!(rt; got.1.as_slice(), told);
+    }
+    Ok(())
+}
+
+// The scripts of the guide for people who clean and merge records, as they stand in examples/, and their replies.
+const MERGE: &[u8] = b"-- The members of a club, from two lists. Parts are missing in both.
+CREATE TABLE members (name TEXT NOT NULL, born INT, city TEXT, CERTAIN KEY (name, born));
+
+-- The first list.
+INSERT INTO members VALUES
+  ('Ann Lee', 1980, 'Bern'),
+  ('Bo Rey', NULL, 'Basel'),
+  ('Cy Orr', 1975, NULL);
+
+-- The second list, one by one.
+INSERT INTO members VALUES ('Ann Lee', 1991, 'Thun');
+INSERT INTO members VALUES ('Bo Rey', 1968, NULL);
+INSERT INTO members VALUES ('Cy Orr', NULL, 'Chur');
+
+-- Both that were refused are the same persons: what the second list knows of them is put to their rows.
+UPDATE members SET born = 1968 WHERE name = 'Bo Rey' AND born IS NULL;
+UPDATE members SET city = 'Chur' WHERE name = 'Cy Orr' AND city IS NULL;
+SELECT * FROM members ORDER BY name, born;
+";
+
+const MERGE_REPLIES: &[u8] = b"created members
+inserted 3
+inserted 1
+refused: certain key 1 of members: rows 2 and 5 agree in the completion ('Bo Rey', 1968)
+refused: certain key 1 of members: rows 3 and 5 agree in the completion ('Cy Orr', 1975)
+updated 1
+updated 1
+name|born|city
+'Ann Lee'|1980|'Bern'
+'Ann Lee'|1991|'Thun'
+'Bo Rey'|1968|'Basel'
+'Cy Orr'|1975|'Chur'
+rows 4
+";
+
+const REGISTRY: &[u8] = b"-- A registry of devices. What isn't known is NULL.
+CREATE TABLE devices (serial VARCHAR(12), owner TEXT, room INT, CERTAIN KEY (serial, owner));
+INSERT INTO devices VALUES
+  ('A-100', 'lab', 12),
+  (NULL, 'office', 3),
+  ('A-101', 'hall', NULL);
+
+-- No row has the values of these, and yet each may be a device that is there already.
+INSERT INTO devices VALUES (NULL, 'lab', 12);
+INSERT INTO devices VALUES ('A-200', 'office', NULL);
+INSERT INTO devices VALUES ('A-101', NULL, 7);
+
+-- This one is another, whatever the nulls stand for.
+INSERT INTO devices VALUES ('A-102', 'lab', 14);
+
+-- Once the serial of the office's device is known, the second one can come in.
+UPDATE devices SET serial = 'A-050' WHERE owner = 'office';
+INSERT INTO devices VALUES ('A-200', 'office', NULL);
+SELECT serial, owner FROM devices ORDER BY owner, serial;
+";
+
+const REGISTRY_REPLIES: &[u8] = b"created devices
+inserted 3
+refused: certain key 1 of devices: rows 1 and 4 agree in the completion ('A-100', 'lab')
+refused: certain key 1 of devices: rows 2 and 4 agree in the completion ('A-200', 'office')
+refused: certain key 1 of devices: rows 2 and 4 agree in the completion ('A-101', 'office')
+inserted 1
+updated 1
+inserted 1
+serial|owner
+'A-101'|'hall'
+'A-100'|'lab'
+'A-102'|'lab'
+'A-050'|'office'
+'A-200'|'office'
+rows 5
+";
+
+const UNIQUE: &[u8] =
+    b"-- The same rows under UNIQUE, which is a possible key, and under a certain key.
+CREATE TABLE loose (serial VARCHAR(12), owner TEXT, UNIQUE (serial, owner));
+CREATE TABLE strict (serial VARCHAR(12), owner TEXT, CERTAIN KEY (serial, owner));
+SHOW CREATE TABLE loose;
+INSERT INTO loose VALUES ('A-100', NULL), ('A-100', NULL), (NULL, 'lab');
+INSERT INTO strict VALUES ('A-100', NULL), ('A-100', NULL), (NULL, 'lab');
+
+-- UNIQUE refuses only what is equal already, with every part known.
+INSERT INTO loose VALUES ('A-100', 'lab'), ('A-100', 'lab');
+SELECT COUNT(*) FROM loose;
+SELECT COUNT(*) FROM strict;
+";
+
+const UNIQUE_REPLIES: &[u8] = b"created loose
+created strict
+CREATE TABLE loose (serial VARCHAR(12), owner TEXT, POSSIBLE KEY (serial, owner));
+inserted 3
+refused: certain key 1 of strict: rows 1 and 2 agree in the completion ('A-100', '')
+refused: possible key 1 of loose: rows 4 and 5 agree on ('A-100', 'lab')
+count
+3
+rows 1
+count
+0
+rows 1
+";
+
+#[test]
+fn the_guide_is_answered(rt: HostRuntime) -> Result<(), Fail> {
+    for (script, told) in [
+        (MERGE, MERGE_REPLIES),
+        (REGISTRY, REGISTRY_REPLIES),
+        (UNIQUE, UNIQUE_REPLIES),
+    ] {
+        let got = run(rt.alloc(), script, 4096, &[], &[])?;
+        assert_eq!(rt; got.0, Status::Refused);
+        assert_eq!(rt; got.1.as_slice(), told);
+    }
     Ok(())
 }
 

@@ -2,6 +2,7 @@ ghost use Rattle.std.specs.Prelude.{◌≡◌, ◌↔◌, ◌+◌, ◌<◌, ◌�
 ghost use Rattle.std.specs.String.{string_bytes};
 ghost use Rattle.pk_world.specs.Rose.{Rose};
 ghost use Rattle.pk_engine.specs.Base.{empty_base};
+ghost use Rattle.pk_engine.specs.KeyLaws.{KeysAreJudgedByCompletions};
 ghost use Rattle.pk_run.specs.Status.{IsUnrun};
 ghost use Rattle.pk_run.specs.Words.{is_plain_form};
 ghost use Rattle.pk_run.specs.Told.{told, is_refused};
@@ -19,6 +20,7 @@ use std::alloc::Global;
 /// Does what the words after the program's name ask for. `memory` reads the whole script of the source,
 /// answers its pieces one by one from the empty base, and tells each reply to the station before the
 /// next piece is answered. No other words ask for anything.
+#[tactic(auto, using(crate::proofs::KeyLaw::keys_judged))]
 pub fn run_keytab<S: Source, W: Station>(
     alloc: Global,
     words: &[String],
@@ -28,6 +30,10 @@ pub fn run_keytab<S: Source, W: Station>(
     // What is told is a front of the machine's replies, and all of them where the script was run to its end.
     ensures front { WhereTells S.Source script.old (λ bytes. TakesFront W.Station station.old station.new (told empty_base bytes)) }
     ensures whole { OnWholeRun result (WhereTells S.Source script.old (λ bytes. Takes W.Station station.old station.new (told empty_base bytes))) }
+
+    // Where nothing else refuses a statement that changes rows, it is refused for a key exactly where some key of its
+    // table, as that would be, fails over all completions, with two rows shown; else it is done.
+    ensures keys { KeysAreJudgedByCompletions }
 
     // What each status says of the script, of source and station, and of their counts of faults.
     ensures read { WhereTells S.Source script.old (λ bytes. IsReadAs result bytes (S.rest script.new)) }

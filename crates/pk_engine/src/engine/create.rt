@@ -92,7 +92,7 @@ impl Engine {
         let reply = Reply::Created {
             table: declared.table.copy()?,
         };
-        let table = Stored::make(self.alloc, declared.table.copy()?, schema);
+        let table = Stored::make(self.alloc, declared.table.copy()?, schema)?;
         self.tables.insert(place, table)?;
         self.commit += 1;
         Ok(reply)

@@ -8,7 +8,7 @@ use crate::engine::{Engine, no_table};
 use crate::outcome::Outcome;
 use pk_parse::{Delete, Insert, Update};
 use pk_report::Reply;
-use pk_values::{Changes, Memory};
+use pk_values::{Changes, Memory, Refusal};
 
 impl Engine {
     ghost use Rattle.std.specs.Prelude.{Ok, None, ◌∷◌, []};
@@ -19,8 +19,8 @@ impl Engine {
     ghost use Rattle.pk_engine.specs.Place.{IsPlaceOf};
     ghost use Rattle.pk_engine.specs.State.{State, Changed, current, committed, with_commit};
     ghost use Rattle.pk_engine.specs.Refusing.{about, decided};
-    ghost use Rattle.pk_engine.specs.Limits.{most_ids, limit_refusals};
-    ghost use Rattle.pk_engine.specs.Edits.{commit_refusals, with_changes, insert_refusals, inserted, update_refusals, updated_rows, delete_refusals, deleted_rows};
+    ghost use Rattle.pk_engine.specs.Limits.{most_ids};
+    ghost use Rattle.pk_engine.specs.Edits.{change_refusals, commit_refusals, with_changes, insert_refusals, inserted, update_refusals, updated_rows, delete_refusals, deleted_rows};
     ghost use Rattle.pk_engine.specs.Stands.{StandsFor, Replies, Moves, RepliesAt, MovesAt};
 
     // The answer to INSERT.
@@ -101,8 +101,8 @@ impl Engine {
         }
     }
 
-    // Commits changes of the table at a place and gives the reply, unless a limit of the base forbids it.
-    // Without a change there is no commit, and no limit is passed.
+    // Commits changes of the table at a place and gives the reply, unless a limit of the base or a key of
+    // the table forbids it. Without a change there is no commit, no limit is passed and no key broken.
     fn settle(&mut self, place: usize, changes: Changes, reply: Reply) -> Result<Reply, Memory>
         requires within { place < length self.old.tables.items }
         requires of { (t : Table) → slice_get self.old.tables.items place ≡ Some t → AreOf t changes }
@@ -114,11 +114,32 @@ impl Engine {
             return Ok(reply);
         }
         let rows = self.rows_with(place, &changes);
-        if let Some(refusal) = self.limit_refusal(place, rows, &changes) {
+        if let Some(refusal) = self.change_refusal(place, rows, &changes)? {
             return Ok(Reply::Refused(refusal));
         }
         self.commit(place, changes, rows)?;
         Ok(reply)
+    }
+
+    // What changes of the table at a place are refused for, with which the base has so many rows: first by
+    // the limits of the base, which cost nothing, then by the keys of the table.
+    fn change_refusal(
+        &self,
+        place: usize,
+        rows: u64,
+        changes: &Changes,
+    ) -> Result<Option<Refusal>, Memory>
+        requires within { place < length self.now.tables.items }
+        requires of { (t : Table) → slice_get self.now.tables.items place ≡ Some t → AreOf t changes.now }
+        requires stands { (st : State) × StandsFor self.now st }
+        requires rows { (st : State) (t : Table) → StandsFor self.now st → slice_get self.now.tables.items place ≡ Some t → rows ≡ min (row_count (committed (current st) (Changed ((t.name, changes.now) ∷ [])))) (2 ^ 64 - 1) }
+        ensures stands { IfOk result (λ r. (st : State) (t : Table) → StandsFor self.now st → slice_get self.now.tables.items place ≡ Some t → r ≡ first_some (change_refusals st t changes.now)) }
+        ensures room { IfOk result (λ r. r ≡ None → self.now.commit < most_ids) }
+    {
+        if let Some(refusal) = self.limit_refusal(place, rows, changes) {
+            return Ok(Some(refusal));
+        }
+        self.tables[place].broken_key(changes)
     }
 
     // Commits changes of the table at a place, with which the base has so many rows.
@@ -128,7 +149,7 @@ impl Engine {
         requires stands { (st : State) × StandsFor self.old st }
         requires commits { self.old.commit < most_ids }
         requires rows { (st : State) (t : Table) → StandsFor self.old st → slice_get self.old.tables.items place ≡ Some t → rows ≡ min (row_count (committed (current st) (Changed ((t.name, changes) ∷ [])))) (2 ^ 64 - 1) }
-        requires limits { (st : State) (t : Table) → StandsFor self.old st → slice_get self.old.tables.items place ≡ Some t → first_some (limit_refusals st t changes) ≡ None }
+        requires free { (st : State) (t : Table) → StandsFor self.old st → slice_get self.old.tables.items place ≡ Some t → first_some (change_refusals st t changes) ≡ None }
         ensures { IfOk result (λ _. (st : State) (t : Table) → StandsFor self.old st → slice_get self.old.tables.items place ≡ Some t → StandsFor self.new (with_commit st (Changed ((t.name, changes) ∷ [])))) }
     {
         self.tables[place].change(changes)?;

@@ -5,7 +5,7 @@ use Rattle.pk_values.specs.declared.refusal.Refusal.{Refusal}
 use Rattle.pk_values.specs.declared.refusal.Refusal.TheVariants.{NotStatement}
 use Rattle.pk_values.specs.Refusals.{first_some}
 use Rattle.pk_parse.specs.declared.statement.Statement.{Statement}
-use Rattle.pk_parse.specs.declared.statement.Statement.TheVariants.{Create, Drop, Insert as InsertInto, Update as UpdateIn, Delete as DeleteFrom, Select as SelectFrom}
+use Rattle.pk_parse.specs.declared.statement.Statement.TheVariants.{Create, Drop, Insert as InsertInto, Update as UpdateIn, Delete as DeleteFrom, Select as SelectFrom, Show}
 use Rattle.pk_parse.specs.declared.query.What.{What}
 use Rattle.pk_parse.specs.declared.query.What.TheVariants.{All, Columns, Count}
 use Rattle.pk_parse.specs.Parsed.{parsed}
@@ -19,6 +19,7 @@ use Rattle.pk_engine.specs.Create.{create_refusals, created}
 use Rattle.pk_engine.specs.Drop.{drop_refusals, dropped}
 use Rattle.pk_engine.specs.Edits.{insert_refusals, inserted, update_refusals, updated_rows, delete_refusals, deleted_rows}
 use Rattle.pk_engine.specs.Select.{told_as, found, selected_rows}
+use Rattle.pk_engine.specs.Show.{shown_table}
 use Rattle.pk_engine.specs.Answer.{answer}
 use Rattle.pk_run.specs.Served.{is_served}
 use Rattle.pk_run.specs.Told.{step, refused, answer_to, is_refusal}
@@ -57,6 +58,7 @@ left_by_answer st (UpdateIn u) h = left_about st u.table (λ t. decided st (upda
 left_by_answer st (DeleteFrom d) h = left_about st d.table (λ t. decided st (delete_refusals st t d) (deleted_rows st t d)) (λ t. left_by st (delete_refusals st t d) (deleted_rows st t d) refl) h
 left_by_answer st (SelectFrom s) h =
     left_about st s.table (λ t. decided st (select_refusals t.shape s) (selected_rows st t s)) (λ t. left_by st (select_refusals t.shape s) (selected_rows st t s) (no_refusal s.what (found t s))) h
+left_by_answer st (Show name) h = left_about st name (λ t. shown_table st t) (λ t none. refl) h
 left_by_answer st _ h = refl
 
 left_by_choice : (st : State) (line : ℕ) (s : Statement) (served : Bool)
