@@ -105,7 +105,7 @@ judged st t own c done answered valid of is = record {
 
 -- ---- INSERT, UPDATE and DELETE
 
-about_is : (st : State) (name : List ℕ) (step : Table → Step) (t : Table) → table_of st name ≡ Some t → about st name step ≡ step t
+pub about_is : (st : State) (name : List ℕ) (step : Table → Step) (t : Table) → table_of st name ≡ Some t → about st name step ≡ step t
 unfolding about
 about_is st name step t found = ap (about_found st name step) found
 

@@ -10,7 +10,7 @@ use Rattle.pk_values.specs.Refusals.{first_some}
 use Rattle.pk_values.specs.declared.refusal.Refusal.{Refusal}
 use Rattle.pk_values.specs.declared.changes.Changes.{Changes}
 use Rattle.pk_parse.specs.declared.statement.Statement.{Statement}
-use Rattle.pk_parse.specs.declared.statement.Statement.TheVariants.{Create, Drop, Insert as InsertInto, Update, Delete, Select as SelectFrom, Show}
+use Rattle.pk_parse.specs.declared.statement.Statement.TheVariants.{Create, Drop, Insert as InsertInto, Update, Delete, Select as SelectFrom, Show, Implies, Cover}
 use Rattle.pk_parse.specs.declared.declaration.TableDecl.{TableDecl}
 use Rattle.pk_parse.specs.declared.declaration.KeyText.{KeyText}
 use Rattle.pk_parse.specs.Declarations.{is_plain, names_of, names_in}
@@ -32,6 +32,7 @@ use Rattle.pk_engine.specs.Edits.{changes_in, is_unchanged, change_refusals, com
 use Rattle.pk_engine.specs.Entries.{AreOf}
 use Rattle.pk_engine.specs.Select.{selected_rows}
 use Rattle.pk_engine.specs.Valid.{IsValid, IsValidTable, names_are_names}
+use Rattle.pk_engine.specs.Reasoning.{implies_refusals, implied_told}
 use Rattle.pk_engine.specs.Answer.{answer}
 use Rattle.pk_engine.proofs.EditLemmas.{insert_of, update_of, delete_of}
 use Rattle.pk_engine.proofs.LimitLemmas.{rows_within, ids_within, commits_within, tables_within}
@@ -170,4 +171,7 @@ answer_valid st (Delete d) plain texts names valid =
 answer_valid st (SelectFrom s) plain texts names valid =
     about_keeps (λ x. IsValid (current x)) st s.table _ valid (λ t found. decided_keeps (λ x. IsValid (current x)) st (select_refusals t.shape s) (selected_rows st t s) valid (λ free. valid))
 answer_valid st (Show name) plain texts names valid = about_keeps (λ x. IsValid (current x)) st name _ valid (λ t found. valid)
+answer_valid st (Implies name k) plain texts names valid =
+    about_keeps (λ x. IsValid (current x)) st name _ valid (λ t found. decided_keeps (λ x. IsValid (current x)) st (implies_refusals t k) (implied_told st t k) valid (λ free. valid))
+answer_valid st (Cover name) plain texts names valid = about_keeps (λ x. IsValid (current x)) st name _ valid (λ t found. valid)
 answer_valid st _ plain texts names valid = valid

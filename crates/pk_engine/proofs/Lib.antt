@@ -17,3 +17,4 @@ pub mod OtherLemmas
 pub mod MadeLemmas
 pub mod ShownLemmas
 pub mod JudgeLemmas
+pub mod ReasonLemmas

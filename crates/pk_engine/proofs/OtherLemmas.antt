@@ -26,6 +26,7 @@ use Rattle.pk_engine.specs.Create.{create_refusals, created, table_exists}
 use Rattle.pk_engine.specs.Drop.{drop_refusals, dropped}
 use Rattle.pk_engine.specs.Edits.{is_unchanged, with_changes, changes_in, insert_refusals, inserted, insert_entries, update_refusals, updated_rows, update_entries, delete_refusals, deleted_rows, delete_entries}
 use Rattle.pk_engine.specs.Select.{told_as, found, selected_rows}
+use Rattle.pk_engine.specs.Reasoning.{implies_refusals, implied_told}
 use Rattle.pk_engine.specs.Answer.{answer}
 use Rattle.pk_engine.specs.Laws.{SelectsChangeNothing, RefusalsChangeNothing, OtherTablesStay, CreatedTablesAreThere, DroppedTablesAreGone}
 use Rattle.pk_engine.proofs.AnswerLemmas.{about_leaves, told_leaves}
@@ -73,6 +74,8 @@ refusals_leave st (statements.Update u) r is = found_leaves st u.table _ r (λ t
 refusals_leave st (statements.Delete d) r is = found_leaves st d.table _ r (λ t. refused_leaves st (delete_refusals st t d) (deleted_rows st t d) r (λ x e. cc)) is
 refusals_leave st (statements.Select s) r is = found_leaves st s.table _ r (λ t. refused_leaves st (select_refusals t.shape s) (selected_rows st t s) r (told_no_refusal s.what (found t s))) is
 refusals_leave st (statements.Show name) r is = told_leaves st name _ (λ t. refl)
+refusals_leave st (statements.Implies name k) r is = about_leaves st name (λ t. implies_refusals t k) (λ t. implied_told st t k) (λ t. refl)
+refusals_leave st (statements.Cover name) r is = told_leaves st name _ (λ t. refl)
 refusals_leave st _ r is = refl
 
 -- ---- the other tables
@@ -150,6 +153,8 @@ others_stay st (statements.Delete d) name other =
     (λ free. changes_leave st t (changes_in t (delete_entries t d)) name (λ e. other (ap Some (sym (found_name st d.table t is) ∙ e)))))
 others_stay st (statements.Select s) name other = ap (λ x. table_of x name) (selects_leave st s)
 others_stay st (statements.Show shown) name other = ap (λ x. table_of x name) (told_leaves st shown _ (λ t. refl))
+others_stay st (statements.Implies asked k) name other = ap (λ x. table_of x name) (about_leaves st asked (λ t. implies_refusals t k) (λ t. implied_told st t k) (λ t. refl))
+others_stay st (statements.Cover asked) name other = ap (λ x. table_of x name) (told_leaves st asked _ (λ t. refl))
 others_stay st _ name other = refl
 
 -- ---- what was done, by the reply

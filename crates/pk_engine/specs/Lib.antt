@@ -11,9 +11,11 @@ pub mod Edits
 pub mod Entries
 pub mod Select
 pub mod Show
+pub mod Reasoning
 pub mod Outcome
 pub mod Answer
 pub mod Valid
 pub mod Stands
 pub mod Laws
 pub mod KeyLaws
+pub mod ReasonLaws

@@ -10,6 +10,7 @@ mod create;
 mod drop_table;
 mod edit;
 mod limits;
+mod reason;
 mod select;
 mod show;
 
@@ -67,12 +68,12 @@ impl Engine {
             Statement::Delete(delete) => self.delete(delete),
             Statement::Select(select) => self.select(select),
             Statement::Show { table } => self.show(table),
+            Statement::Implies { table, key } => self.implies(table, key),
+            Statement::Cover { table } => self.cover(table),
             Statement::Begin
             | Statement::Commit
             | Statement::Rollback
             | Statement::Session { .. }
-            | Statement::Implies { .. }
-            | Statement::Cover { .. }
             | Statement::Examples { .. }
             | Statement::Discover { .. }
             | Statement::Checkpoint => unreachable!(),

@@ -4,6 +4,7 @@
 ghost use Rattle.pk_engine.specs.Base.{empty_base};
 ghost use Rattle.pk_engine.specs.Valid.{IsValid, AnswersKeepValid};
 ghost use Rattle.pk_engine.specs.KeyLaws.{KeysAreJudgedByCompletions};
+ghost use Rattle.pk_engine.specs.ReasonLaws.{ImpliesTellsTheTruth, CoverIsTold};
 ghost use Rattle.pk_engine.specs.Laws.{SelectsChangeNothing, RefusalsChangeNothing, OtherTablesStay, CreatedTablesAreThere, DroppedTablesAreGone, InsertsAddRows, UpdatesSetRows, OtherColumnsStay, SetColumnsAreSet, DeletesLeaveTheRest, EntriesAreCommitted, SelectsTellTheirRows, WholeRowsAreTold, RowsArePutInOrder, CountsAreOfTheRowsShown};
 
 /// From the empty base on, every base is within its limits and has its tables in strict byte order of
@@ -81,4 +82,16 @@ pub fn rows_are_put_in_order()
 /// completion for a certain key, as they are for a possible one.
 pub fn keys_are_judged_by_completions()
     ensures { KeysAreJudgedByCompletions }
+{}
+
+/// The reply to IMPLIES is that the key is implied exactly where it holds in every table of the schema,
+/// with rules that lead to it from a declared key; the two rows that are shown otherwise are a table of
+/// the schema in which the key fails.
+pub fn implies_tells_the_truth()
+    ensures { ImpliesTellsTheTruth }
+{}
+
+/// The reply to COVER tells the cover of the table's keys.
+pub fn the_cover_is_told()
+    ensures { CoverIsTold }
 {}

@@ -15,6 +15,8 @@ use std::alloc::Global;
 use std::cmp::Ordering;
 use std::marker::Model;
 
+mod reasoning;
+
 // The number of the one table that the work of a statement is about.
 const TABLE: u32 = 1;
 

@@ -12,13 +12,13 @@ use Rattle.pk_rule.specs.Tables.{Implied}
 use Rattle.pk_rule.specs.Rule.{alone_implies, is_implied}
 use Rattle.pk_rule.specs.Laws.{key_over}
 use Rattle.pk_rule.proofs.RuleLemmas.{implied_holds, holds_implied}
-use Rattle.pk_imply.specs.Cover.{IsMinimal, IsCoverOf, IsCover, IsCoverByRule}
+use Rattle.pk_imply.specs.Cover.{IsMinimal, IsCoverOf, IsCover, IsCoverByRule, cover_of}
 use Rattle.pk_imply.specs.Laws.{with_keys, MayBeNull}
 use Rattle.pk_imply.proofs.ListLemmas.{in_first, in_map, map_in, all_inside}
 use Rattle.pk_imply.proofs.SubsetLemmas.{subset_refl, subset_trans}
 use Rattle.pk_imply.proofs.RuleLemmas.{alone_from, alone_parts, alone_itself, alone_trans, fits_possible, fits_certain, known_of_possible, implied_by, implied_from}
 use Rattle.pk_imply.proofs.CoverLemmas.{minimal, follows_over, minimal_within, inside_set, key_inside}
-use Rattle.pk_imply.proofs.TruthLemmas.{cover_by_rule}
+use Rattle.pk_imply.proofs.TruthLemmas.{cover_by_rule, cover_computed}
 use Rattle.pk_imply.proofs.OrderLemmas.{one_list, Distinct, keys_once, joined_once, not_among_others, others_among}
 
 -- ---- there is one cover
@@ -29,6 +29,10 @@ one_cover P width a b one other =
     let possible : one.possible ≡ other.possible = one_list _ one.possible other.possible one.possible_are other.possible_are in
     one.keys_are ∙ ap (λ xs. map (key_over Certain) xs ++ map (key_over Possible) one.possible) certain
     ∙ ap (λ xs. map (key_over Certain) other.certain ++ map (key_over Possible) xs) possible ∙ sym other.keys_are
+
+-- so it is the computed one
+pub is_computed : (s : Plain) (keys : List KeyDecl) → IsPlain s → IsCover s keys → keys ≡ cover_of s
+is_computed s keys plain cover = one_cover (Implied s) (length s.kinds) keys (cover_of s) cover (cover_computed s plain)
 
 -- ---- its keys
 

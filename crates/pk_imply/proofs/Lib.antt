@@ -2,9 +2,10 @@ pub mod ListLemmas
 pub mod SubsetLemmas
 pub mod RuleLemmas
 pub mod LeastLemmas
+pub mod OrderLemmas
+pub mod InsertLemmas
 pub mod CoverLemmas
 pub mod PlaceLemmas
 pub mod TruthLemmas
-pub mod OrderLemmas
 pub mod LawLemmas
 pub mod RuleSteps

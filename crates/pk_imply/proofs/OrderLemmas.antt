@@ -14,7 +14,7 @@ use Rattle.pk_rule.specs.Laws.{key_over}
 use Rattle.pk_imply.specs.Cover.{ListsAll}
 use Rattle.pk_imply.proofs.ListLemmas.{in_none, in_first, in_rest, in_cases, map_in}
 
-abbrev ascends : List ℕ → Type 0
+abbrev pub ascends : List ℕ → Type 0
 ascends xs = IsStrictlySortedBy column_set_cmp xs
 
 first_below : (x : ℕ) (xs : List ℕ) (y : ℕ) → ascends (x ∷ xs) → Contains xs y → column_set_cmp x y ≡ Less

@@ -1,5 +1,5 @@
 -- The rule by column sets is the truth of all tables, so it tells the same cover.
-use Rattle.std.proofs.Common.{◌≡◌, ◌∙◌, sym, ap, subst, ℕ, ◌^◌, ◌<◌, true, not, List, ◌++◌, length, map, filter}
+use Rattle.std.proofs.Common.{◌≡◌, refl, ◌∙◌, sym, ap, subst, ℕ, ◌^◌, ◌<◌, true, not, List, ◌++◌, length, map, filter}
 use Rattle.pk_values.specs.declared.key.KeyDecl.{KeyDecl}
 use Rattle.pk_values.specs.declared.key.Sort.{Sort}
 use Rattle.pk_values.specs.declared.key.Sort.TheVariants.{Certain, Possible}
@@ -8,9 +8,10 @@ use Rattle.pk_rule.specs.Tables.{Implied}
 use Rattle.pk_rule.specs.Rule.{is_implied}
 use Rattle.pk_rule.specs.Laws.{key_over}
 use Rattle.pk_rule.proofs.RuleLemmas.{implied_holds, holds_implied}
-use Rattle.pk_imply.specs.Candidates.{candidates, some_implies, IsLeast}
-use Rattle.pk_imply.specs.Cover.{IsMinimal, ListsAll, IsCoverOf, IsCover, IsCoverByRule}
-use Rattle.pk_imply.proofs.LeastLemmas.{lists_same}
+use Rattle.pk_imply.specs.Candidates.{candidates, some_implies, has_part, IsLeast}
+use Rattle.pk_imply.specs.Cover.{IsMinimal, ListsAll, IsCoverOf, IsCover, IsCoverByRule, least_of, cover_of}
+use Rattle.pk_imply.proofs.LeastLemmas.{lists_same, least_listed}
+use Rattle.pk_imply.proofs.InsertLemmas.{in_order_lists}
 use Rattle.pk_imply.proofs.CoverLemmas.{cover_is}
 
 module _ (P Q : KeyDecl → Type 0) (width : ℕ) (to : (k : KeyDecl) → k.columns < 2 ^ width → P k → Q k) (from : (k : KeyDecl) → k.columns < 2 ^ width → Q k → P k) where
@@ -65,3 +66,14 @@ cover_made s keys known certain possible certain_slice possible_slice kept kept_
     made_is ∙ ap (λ (xs : List ℕ). map (key_over Certain) xs ++ map (key_over Possible) kept_slice) one
     ∙ ap (λ (xs : List ℕ). map (key_over Certain) certain ++ map (key_over Possible) xs) only in
     subst (IsCover s) (sym all) (true_cover s _ plain (cover_is s certain possible plain first second))
+
+-- the cover that the definition computes
+pub cover_computed : (s : Plain) → IsPlain s → IsCover s (cover_of s)
+unfolding is_implied cover_of
+cover_computed s plain =
+    true_cover s (cover_of s) plain (cover_is s (least_of (candidates s.known Certain s.keys)) (least_of (candidates s.known Possible s.keys)) plain
+    (least_in_order (candidates s.known Certain s.keys)) (least_in_order (candidates s.known Possible s.keys)))
+  where
+    least_in_order : (sets : List ℕ) → ListsAll (IsLeast sets) (least_of sets)
+    least_in_order sets =
+        least_listed sets (filter (λ x. not (has_part sets x)) sets) (least_of sets) refl (in_order_lists (filter (λ x. not (has_part sets x)) sets))

@@ -8,7 +8,7 @@ use Rattle.pk_rule.specs.Plain.{Plain, IsPlain}
 use Rattle.pk_rule.specs.Tables.{Implied}
 use Rattle.pk_rule.specs.Rule.{is_implied}
 use Rattle.pk_imply.specs.Deriving.{rules_of, Derives}
-use Rattle.pk_imply.specs.Cover.{IsCover, IsCoverByRule}
+use Rattle.pk_imply.specs.Cover.{IsCover, IsCoverByRule, cover_of}
 
 -- the schema with these keys in place of its own
 abbrev pub with_keys : Plain → List KeyDecl → Plain
@@ -30,6 +30,10 @@ DerivationsAreSound = (s : Plain) (rules : List Rule) (k : KeyDecl) → IsPlain 
 -- There is at most one list that is the cover.
 abbrev pub OneListIsTheCover : Type 0
 OneListIsTheCover = (s : Plain) (a b : List KeyDecl) → IsCover s a → IsCover s b → a ≡ b
+
+-- And there is one, which the declared keys' sets compute.
+abbrev pub TheCoverIsComputed : Type 0
+TheCoverIsComputed = (s : Plain) → IsPlain s → IsCover s (cover_of s)
 
 -- Column sets alone tell which list is the cover.
 abbrev pub TheRuleTellsTheCover : Type 0

@@ -1,5 +1,6 @@
 pub mod Deriving
 pub mod Cover
 pub mod Candidates
+pub mod Asking
 pub mod Laws
 pub mod Examples

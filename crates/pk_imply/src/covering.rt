@@ -3,7 +3,7 @@ ghost use Rattle.pk_values.specs.declared.key.Sort.TheVariants as sorts;
 ghost use Rattle.pk_rule.specs.Plain.{plain_of};
 ghost use Rattle.pk_rule.specs.Laws.{key_over};
 ghost use Rattle.pk_imply.specs.Candidates.{some_implies};
-ghost use Rattle.pk_imply.specs.Cover.{IsCover};
+ghost use Rattle.pk_imply.specs.Cover.{IsCover, cover_of};
 
 use crate::implying::some_implies;
 use crate::least_sets::least_sets;
@@ -13,12 +13,13 @@ use std::alloc::Global;
 
 /// The cover of the schema's keys: the certain keys over the minimal sets of columns for which a certain
 /// key is implied, then the possible keys over the minimal sets for which a possible key, and no certain
-/// one, is implied; each in the order of sets. `Memory` may come at any schema.
+/// one, is implied; each in the order of sets. It is the list `cover_of`. `Memory` may come at any schema.
 ///
 /// For 32 keys, the most that a schema has, these are at most 4,224 tests of inclusion and two sorts of 32
 /// sets, however many columns there are.
 pub fn cover(alloc: Global, schema: &Schema) -> Result<Items<KeyDecl>, Memory>
-    ensures { IfOk result (IsCover (plain_of schema.now)) }
+    ensures cover { IfOk result (IsCover (plain_of schema.now)) }
+    ensures computed { IfOk result (λ keys. keys ≡ cover_of (plain_of schema.now)) }
 {
     let keys = schema.keys();
     let known = schema.not_null();

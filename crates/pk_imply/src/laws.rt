@@ -1,6 +1,6 @@
 //! What implication and the cover come to. A law is a contract; its function does nothing.
 
-ghost use Rattle.pk_imply.specs.Laws.{RulesLeadToTheKey, DerivationsAreSound, OneListIsTheCover, TheRuleTellsTheCover, CoverImpliesTheSame, CoverImpliesTheSameByRule, CoverHasNoneToSpare, CoverHasNoneToSpareByRule, CoverIsInEachEqual, CoverIsInEachEqualByRule};
+ghost use Rattle.pk_imply.specs.Laws.{RulesLeadToTheKey, DerivationsAreSound, OneListIsTheCover, TheCoverIsComputed, TheRuleTellsTheCover, CoverImpliesTheSame, CoverImpliesTheSameByRule, CoverHasNoneToSpare, CoverHasNoneToSpareByRule, CoverIsInEachEqual, CoverIsInEachEqualByRule};
 ghost use Rattle.pk_imply.specs.Examples.{ExamplesAreComputed};
 
 /// The rules that `derive` tells are the declaration of a key, and lead from it to the key asked for.
@@ -16,6 +16,11 @@ pub fn derivations_are_sound()
 /// At most one list of keys is the cover of a schema's keys.
 pub fn one_list_is_the_cover()
     ensures { OneListIsTheCover }
+{}
+
+/// There is a cover, and the columns of the declared keys compute it.
+pub fn the_cover_is_computed()
+    ensures { TheCoverIsComputed }
 {}
 
 /// Sets of columns alone tell which list of keys is the cover.
@@ -42,7 +47,7 @@ pub fn the_cover_is_in_each_equal()
     ensures rule { CoverIsInEachEqualByRule }
 {}
 
-/// What keys over three columns imply, and by which rules.
+/// What keys over three columns imply, by which rules, and what covers them.
 pub fn examples_are_computed()
     ensures { ExamplesAreComputed }
 {}

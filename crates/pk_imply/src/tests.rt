@@ -7,14 +7,14 @@ use super::*;
 use pk_lex::lex;
 use pk_parse::{Statement, TableDecl, parse};
 use pk_schema::Schema;
-use pk_values::{ColSet, KeyDecl, Rule, Sort};
+use pk_values::{ColSet, KeyDecl, Refusal, Rule, Sort};
 use std::alloc::Global;
 use std::process::Abort;
 use std::test::Fail;
 
-// The schema of a table with these columns and keys, as CREATE TABLE spells them but for the words POSSIBLE KEY, written `?`, and
-// CERTAIN KEY, written `+`.
-fn table(alloc: Global, columns: &[u8], keys: &[u8]) -> Result<Schema, Fail> {
+// The declaration of a table t with these columns and keys, as CREATE TABLE spells them but for the words POSSIBLE KEY, written
+// `?`, and CERTAIN KEY, written `+`.
+fn script(alloc: Global, columns: &[u8], keys: &[u8]) -> Result<Vec<u8>, Fail> {
     let mut script = Vec::new(alloc);
     script.extend_from_slice(b"CREATE TABLE t (")?;
     script.extend_from_slice(columns)?;
@@ -26,6 +26,12 @@ fn table(alloc: Global, columns: &[u8], keys: &[u8]) -> Result<Schema, Fail> {
         }
     }
     script.extend_from_slice(b");")?;
+    Ok(script)
+}
+
+// The schema of that table.
+fn table(alloc: Global, columns: &[u8], keys: &[u8]) -> Result<Schema, Fail> {
+    let script = script(alloc, columns, keys)?;
     made(alloc, script.as_slice())
 }
 
@@ -213,6 +219,76 @@ fn many_keys_over_many_columns_are_covered(rt: HostRuntime) -> Result<(), Fail> 
         let keys = cover(alloc, &schema)?;
         let told = spelled_keys(alloc, keys.as_slice())?;
         assert!(rt; told.as_slice() == want);
+    }
+    Ok(())
+}
+
+// What the first of these keys over the schema's columns is: its letters, or why it is refused.
+fn asked(alloc: Global, schema: &Schema, keys: &[u8]) -> Result<Vec<u8>, Fail> {
+    let script = script(alloc, b"z INT", keys)?;
+    let pieces = lex(alloc, script.as_slice())?;
+    let piece = pieces.first().ok_or("no piece")?;
+    match parse(alloc, piece) {
+        Ok(Statement::Create(decl)) => asked_first(alloc, schema, &decl),
+        _ => Err("no declaration")?,
+    }
+}
+
+fn asked_first(alloc: Global, schema: &Schema, decl: &TableDecl) -> Result<Vec<u8>, Fail> {
+    let key = decl.keys.as_slice().first().ok_or("no key")?;
+    match asked_key(schema, &decl.table, key) {
+        Ok(key) => spelled_keys(alloc, &[key]),
+        Err(AskErr::Refused(refusal)) => spelled_refusal(alloc, &refusal),
+        Err(AskErr::Memory) => Err("out of memory")?,
+    }
+}
+
+fn spelled_refusal(alloc: Global, refusal: &Refusal) -> Result<Vec<u8>, Fail> {
+    match refusal {
+        Refusal::NoColumn { column, table } => parts(
+            alloc,
+            &[table.as_slice(), b" lacks ", column.as_slice()],
+        ),
+        Refusal::ColumnTwice { column } => parts(alloc, &[column.as_slice(), b" twice"]),
+        _ => Err("another refusal")?,
+    }
+}
+
+fn parts(alloc: Global, parts: &[&[u8]]) -> Result<Vec<u8>, Fail> {
+    let mut text = Vec::new(alloc);
+    for part in parts {
+        text.extend_from_slice(*part)?;
+    }
+    Ok(text)
+}
+
+#[test]
+fn keys_are_asked_about(rt: HostRuntime) -> Result<(), Fail> {
+    let alloc = rt.alloc();
+    // Columns, the key asked about, and what it is or is refused for.
+    let cases: [(&[u8], &[u8], &[u8]); 13] = [
+        (NULLABLE, b"+()", b"+"),
+        (NULLABLE, b"?()", b"?"),
+        (NULLABLE, b"+(c, a)", b"+AC"),
+        (NULLABLE, b"?(d, c, b, a)", b"?ABCD"),
+        (KNOWN, b"?(b)", b"?B"),
+        (NULLABLE, b"+(a, x, b, y)", b"t lacks x"),
+        (NULLABLE, b"+(x, a, a)", b"t lacks x"),
+        (NULLABLE, b"+(a, a, x)", b"t lacks x"),
+        (NULLABLE, b"?(x, x)", b"t lacks x"),
+        (NULLABLE, b"+(a, b, b, a)", b"b twice"),
+        (NULLABLE, b"?(a, b, a, b)", b"a twice"),
+        (MANY_COLUMNS, b"?(af, a)", b"?A`"),
+        (
+            MANY_COLUMNS,
+            MANY_KEYS,
+            b"?ABCDEFGHIJKLMNOPQRSTUVWXYZ[\\]^_`",
+        ),
+    ];
+    for (columns, key, want) in cases {
+        let schema = table(alloc, columns, b"")?;
+        let told = asked(alloc, &schema, key)?;
+        assert!(rt; told.as_slice() == want, "{key:?}");
     }
     Ok(())
 }

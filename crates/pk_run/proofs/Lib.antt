@@ -1,3 +1,3 @@
 pub mod ServedIsAnswered
 pub mod Runs
-pub mod KeyLaw
+pub mod EngineLaws

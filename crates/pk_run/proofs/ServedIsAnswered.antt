@@ -1,6 +1,6 @@
 use Rattle.std.proofs.Common.{◌≡◌, true, refl}
 use Rattle.pk_parse.specs.declared.statement.Statement.{Statement}
-use Rattle.pk_parse.specs.declared.statement.Statement.TheVariants.{Create, Drop, Insert as InsertInto, Update as UpdateIn, Delete as DeleteFrom, Select as SelectFrom, Show}
+use Rattle.pk_parse.specs.declared.statement.Statement.TheVariants.{Create, Drop, Insert as InsertInto, Update as UpdateIn, Delete as DeleteFrom, Select as SelectFrom, Show, Implies, Cover}
 use Rattle.pk_engine.specs.Answer.{is_answered}
 use Rattle.pk_run.specs.Served.{is_served}
 
@@ -14,4 +14,6 @@ answered_when_served (UpdateIn u) h = refl
 answered_when_served (DeleteFrom d) h = refl
 answered_when_served (SelectFrom s) h = refl
 answered_when_served (Show name) h = refl
+answered_when_served (Implies name k) h = refl
+answered_when_served (Cover name) h = refl
 answered_when_served _ h = h

@@ -110,7 +110,7 @@ pub record RunsAtTheirEdges : Type 0 where
   pub counted : Tells (codes "CREATE TABLE t (a INTEGER, b INTEGER); INSERT INTO t VALUES (1); INSERT INTO t VALUES (1, 2, 3)") (codes "created t" ∷ codes "refused: 1 values for 2 columns" ∷ codes "refused: 3 values for 2 columns" ∷ [])
   pub zero : Tells (codes "CREATE TABLE t (a INTEGER); INSERT INTO t VALUES (0); SELECT * FROM t") (codes "created t" ∷ codes "inserted 1" ∷ codes "a" ∷ codes "0" ∷ codes "rows 1" ∷ [])
   pub fault_on_a_later_line : Tells (codes "SELECT *" ++ 10 ∷ codes "FROM $") (codes "refused: bad character on line 2" ∷ [])
-  pub unserved_first : Tells (codes "IMPLIES u CERTAIN KEY (a)") (codes "refused: not a statement on line 1" ∷ [])
+  pub unserved_first : Tells (codes "EXAMPLES OF u") (codes "refused: not a statement on line 1" ∷ [])
   pub twice_named : Tells (codes "CREATE TABLE t (a INTEGER, b INTEGER, a INTEGER)") (codes "refused: column a twice" ∷ [])
   pub past_64_bits : Tells (codes "CREATE TABLE t (a INTEGER); INSERT INTO t VALUES (9223372036854775808); INSERT INTO t VALUES (9223372036854775807); SELECT * FROM t") (codes "created t" ∷ codes "refused: number outside 64 bits" ∷ codes "inserted 1" ∷ codes "a" ∷ codes "9223372036854775807" ∷ codes "rows 1" ∷ [])
   pub ordered : Tells (codes "CREATE TABLE b (x INTEGER); CREATE TABLE a (y INTEGER); INSERT INTO b VALUES (1); INSERT INTO b VALUES (2); SELECT * FROM b; SELECT * FROM a") (codes "created b" ∷ codes "created a" ∷ codes "inserted 1" ∷ codes "inserted 1" ∷ codes "x" ∷ codes "1" ∷ codes "2" ∷ codes "rows 2" ∷ codes "y" ∷ codes "rows 0" ∷ [])
@@ -135,6 +135,14 @@ pub record KeysAtTheirEdges : Type 0 where
   pub as_they_would_be : Tells (codes "CREATE TABLE t (a INT, CERTAIN KEY (a)); INSERT INTO t VALUES (1); UPDATE t SET a = 1; INSERT INTO t VALUES (1)") (codes "created t" ∷ codes "inserted 1" ∷ codes "updated 1" ∷ codes "refused: certain key 1 of t: rows 1 and 2 agree in the completion (1)" ∷ [])
   pub shown : Tells (codes "CREATE TABLE t (a INT PRIMARY KEY, b VARCHAR(9), UNIQUE (b, a)); SHOW CREATE TABLE t") (codes "created t" ∷ codes "CREATE TABLE t (a INTEGER NOT NULL, b VARCHAR(9), CERTAIN KEY (a), POSSIBLE KEY (a, b));" ∷ [])
 
+-- what keys imply: by rules, or refuted by two rows; the empty key, and keys that say the same
+pub record ReasoningAtItsEdges : Type 0 where
+  pub implied : Tells (codes "CREATE TABLE t (a INT NOT NULL, b INT, POSSIBLE KEY (a)); IMPLIES t CERTAIN KEY (a, b)") (codes "created t" ∷ codes "implied by key 1 by strengthening, extension" ∷ [])
+  pub refuted : Tells (codes "CREATE TABLE t (a INT, b TEXT, POSSIBLE KEY (a)); IMPLIES t CERTAIN KEY (a)") (codes "created t" ∷ codes "not implied: rows (NULL, '') and (NULL, 'a')" ∷ [])
+  pub empty_key : Tells (codes "CREATE TABLE t (a INT); IMPLIES t POSSIBLE KEY ()") (codes "created t" ∷ codes "not implied: rows (0) and (1)" ∷ [])
+  pub refused : Tells (codes "CREATE TABLE t (a INT); IMPLIES t CERTAIN KEY (a, b, a)") (codes "created t" ∷ codes "refused: no column b in t" ∷ [])
+  pub cover : Tells (codes "CREATE TABLE t (a INT, b INT, UNIQUE (a), CERTAIN KEY (a), UNIQUE (a, b)); COVER OF t") (codes "created t" ∷ codes "CERTAIN KEY (a)" ∷ codes "keys 1" ∷ [])
+
 -- the definitions at their edges
 pub record EdgesAreTold : Type 0 where
   pub limits : LimitsInDigits
@@ -150,3 +158,4 @@ pub record EdgesAreTold : Type 0 where
   pub runs : RunsAtTheirEdges
   pub edits : EditsAtTheirEdges
   pub keys : KeysAtTheirEdges
+  pub reasoning : ReasoningAtItsEdges

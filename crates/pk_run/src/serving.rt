@@ -3,8 +3,8 @@ ghost use Rattle.pk_run.specs.Served.{is_served};
 
 use pk_parse::Statement;
 
-/// Whether the statement is answered yet: CREATE TABLE, DROP TABLE, INSERT, UPDATE, DELETE, SELECT and
-/// SHOW CREATE TABLE.
+/// Whether the statement is answered yet: CREATE TABLE, DROP TABLE, INSERT, UPDATE, DELETE, SELECT,
+/// SHOW CREATE TABLE, IMPLIES and COVER.
 #[tactic(auto, unfolding(crate::specs::Served::is_served))]
 pub fn served(statement: &Statement) -> bool
     ensures { result ≡ is_served statement.now }
@@ -16,13 +16,13 @@ pub fn served(statement: &Statement) -> bool
         | Statement::Update(_)
         | Statement::Delete(_)
         | Statement::Select(_)
-        | Statement::Show { .. } => true,
+        | Statement::Show { .. }
+        | Statement::Implies { .. }
+        | Statement::Cover { .. } => true,
         Statement::Begin
         | Statement::Commit
         | Statement::Rollback
         | Statement::Session { .. }
-        | Statement::Implies { .. }
-        | Statement::Cover { .. }
         | Statement::Examples { .. }
         | Statement::Discover { .. }
         | Statement::Checkpoint => false,

@@ -165,7 +165,7 @@ fn scripts_are_answered(rt: HostRuntime) -> Result<(), Fail> {
         ),
         // Read, and not answered yet.
         (
-            b"CREATE TABLE t (a INT); BEGIN; IMPLIES t CERTAIN KEY (a); COVER OF t;",
+            b"CREATE TABLE t (a INT); BEGIN; EXAMPLES OF t; DISCOVER KEYS FROM t;",
             Status::Refused,
             b"created t\nrefused: not a statement on line 1\nrefused: not a statement on line 1\nrefused: not a statement on line 1\n",
         ),
@@ -358,6 +358,70 @@ fn keys_are_judged(rt: HostRuntime) -> Result<(), Fail> {
 }
 
 #[test]
+fn keys_are_reasoned_about(rt: HostRuntime) -> Result<(), Fail> {
+    let cases: [(&[u8], &[u8]); 12] = [
+        // A possible key over NOT NULL columns is certain, and a key over more columns follows.
+        (
+            b"CREATE TABLE t (a INT NOT NULL, b INT, POSSIBLE KEY (a)); IMPLIES t CERTAIN KEY (a, b); IMPLIES t CERTAIN KEY (b); IMPLIES t POSSIBLE KEY (b);",
+            b"created t\nimplied by key 1 by strengthening, extension\nnot implied: rows (0, NULL) and (1, NULL)\nnot implied: rows (0, 0) and (1, 0)\n",
+        ),
+        (
+            b"CREATE TABLE t (a INT, b INT, POSSIBLE KEY (a)); IMPLIES t CERTAIN KEY (a); IMPLIES t POSSIBLE KEY (b, a);",
+            b"created t\nnot implied: rows (NULL, 0) and (NULL, 1)\nimplied by key 1 by extension\n",
+        ),
+        (
+            b"CREATE TABLE t (a INT, s TEXT, CERTAIN KEY (a)); IMPLIES t POSSIBLE KEY (a); IMPLIES t CERTAIN KEY (a); IMPLIES t CERTAIN KEY (s);",
+            b"created t\nimplied by key 1 by weakening\nimplied by key 1\nnot implied: rows (0, NULL) and (1, NULL)\n",
+        ),
+        // The least key that implies it is told.
+        (
+            b"CREATE TABLE t (a INT, b INT, UNIQUE (b), CERTAIN KEY (a), CERTAIN KEY (a)); IMPLIES t CERTAIN KEY (b, a);",
+            b"created t\nimplied by key 2 by extension\n",
+        ),
+        // The empty key, all columns, and no key at all.
+        (
+            b"CREATE TABLE t (a INT, b INT, CERTAIN KEY ()); IMPLIES t CERTAIN KEY (); IMPLIES t POSSIBLE KEY (a, b); COVER OF t;",
+            b"created t\nimplied by key 1\nimplied by key 1 by weakening, extension\nCERTAIN KEY ()\nkeys 1\n",
+        ),
+        (
+            b"CREATE TABLE t (a INT, b TEXT); IMPLIES t CERTAIN KEY (a, b); IMPLIES t POSSIBLE KEY (a, b); IMPLIES t POSSIBLE KEY (); COVER OF t;",
+            b"created t\nnot implied: rows (NULL, NULL) and (NULL, NULL)\nnot implied: rows (0, '') and (0, '')\nnot implied: rows (0, '') and (1, 'a')\nkeys 0\n",
+        ),
+        (
+            b"CREATE TABLE t (a INT, b INT, c INT, POSSIBLE KEY (a), CERTAIN KEY (a), POSSIBLE KEY (a, b), CERTAIN KEY (b, c)); COVER OF t;",
+            b"created t\nCERTAIN KEY (a)\nCERTAIN KEY (b, c)\nkeys 2\n",
+        ),
+        (
+            b"CREATE TABLE t (a INT NOT NULL, b INT, UNIQUE (a, b), UNIQUE (b), UNIQUE (a)); COVER OF t;",
+            b"created t\nCERTAIN KEY (a)\nPOSSIBLE KEY (b)\nkeys 2\n",
+        ),
+        // Refused, each by the first that stands.
+        (
+            b"IMPLIES t CERTAIN KEY (a, a); COVER OF t;",
+            b"refused: no table t\nrefused: no table t\n",
+        ),
+        (
+            b"CREATE TABLE t (a INT); IMPLIES t CERTAIN KEY (a, a); IMPLIES t CERTAIN KEY (a, b, a); IMPLIES t POSSIBLE KEY (b);",
+            b"created t\nrefused: column a twice\nrefused: no column b in t\nrefused: no column b in t\n",
+        ),
+        // The cover's keys make a table of which the same is told.
+        (
+            b"CREATE TABLE t (a INT, b INT, UNIQUE (b), CERTAIN KEY (a, b)); COVER OF t; DROP TABLE t; CREATE TABLE t (a INT, b INT, CERTAIN KEY (a, b), POSSIBLE KEY (b)); COVER OF t;",
+            b"created t\nCERTAIN KEY (a, b)\nPOSSIBLE KEY (b)\nkeys 2\ndropped t\ncreated t\nCERTAIN KEY (a, b)\nPOSSIBLE KEY (b)\nkeys 2\n",
+        ),
+        (
+            b"CREATE TABLE t (a INT, CERTAIN KEY (a)); INSERT INTO t VALUES (1); IMPLIES t CERTAIN KEY (a); COVER OF t; SELECT * FROM t",
+            b"created t\ninserted 1\nimplied by key 1\nCERTAIN KEY (a)\nkeys 1\na\n1\nrows 1\n",
+        ),
+    ];
+    for (script, told) in cases {
+        let got = run(rt.alloc(), script, 4096, &[], &[])?;
+        assert_eq!(rt; got.1.as_slice(), told);
+    }
+    Ok(())
+}
+
+#[test]
 fn a_table_has_at_most_32_keys(rt: HostRuntime) -> Result<(), Fail> {
     let alloc = rt.alloc();
     for (keys, told) in [
@@ -475,15 +539,34 @@ count
 rows 1
 ";
 
+const DESIGN: &[u8] = b"-- Members of a club once more. What do its keys promise?
+CREATE TABLE members (number INT NOT NULL UNIQUE, name TEXT NOT NULL, born INT, mail TEXT UNIQUE, CERTAIN KEY (name, born));
+IMPLIES members CERTAIN KEY (number);
+IMPLIES members CERTAIN KEY (mail);
+IMPLIES members POSSIBLE KEY (name, mail);
+COVER OF members;
+";
+
+const DESIGN_REPLIES: &[u8] = b"created members
+implied by key 1 by strengthening
+not implied: rows (0, '', 0, NULL) and (1, 'a', 1, NULL)
+implied by key 2 by extension
+CERTAIN KEY (number)
+CERTAIN KEY (name, born)
+POSSIBLE KEY (mail)
+keys 3
+";
+
 #[test]
 fn the_guide_is_answered(rt: HostRuntime) -> Result<(), Fail> {
-    for (script, told) in [
-        (MERGE, MERGE_REPLIES),
-        (REGISTRY, REGISTRY_REPLIES),
-        (UNIQUE, UNIQUE_REPLIES),
+    for (script, status, told) in [
+        (MERGE, Status::Refused, MERGE_REPLIES),
+        (REGISTRY, Status::Refused, REGISTRY_REPLIES),
+        (UNIQUE, Status::Refused, UNIQUE_REPLIES),
+        (DESIGN, Status::Done, DESIGN_REPLIES),
     ] {
         let got = run(rt.alloc(), script, 4096, &[], &[])?;
-        assert_eq!(rt; got.0, Status::Refused);
+        assert_eq!(rt; got.0, status);
         assert_eq!(rt; got.1.as_slice(), told);
     }
     Ok(())

@@ -3,6 +3,7 @@ ghost use Rattle.std.specs.String.{string_bytes};
 ghost use Rattle.pk_world.specs.Rose.{Rose};
 ghost use Rattle.pk_engine.specs.Base.{empty_base};
 ghost use Rattle.pk_engine.specs.KeyLaws.{KeysAreJudgedByCompletions};
+ghost use Rattle.pk_engine.specs.ReasonLaws.{ImpliesTellsTheTruth, CoverIsTold};
 ghost use Rattle.pk_run.specs.Status.{IsUnrun};
 ghost use Rattle.pk_run.specs.Words.{is_plain_form};
 ghost use Rattle.pk_run.specs.Told.{told, is_refused};
@@ -20,7 +21,7 @@ use std::alloc::Global;
 /// Does what the words after the program's name ask for. `memory` reads the whole script of the source,
 /// answers its pieces one by one from the empty base, and tells each reply to the station before the
 /// next piece is answered. No other words ask for anything.
-#[tactic(auto, using(crate::proofs::KeyLaw::keys_judged))]
+#[tactic(auto, using(crate::proofs::EngineLaws::keys_judged, crate::proofs::EngineLaws::implied_truly, crate::proofs::EngineLaws::cover_told))]
 pub fn run_keytab<S: Source, W: Station>(
     alloc: Global,
     words: &[String],
@@ -34,6 +35,11 @@ pub fn run_keytab<S: Source, W: Station>(
     // Where nothing else refuses a statement that changes rows, it is refused for a key exactly where some key of its
     // table, as that would be, fails over all completions, with two rows shown; else it is done.
     ensures keys { KeysAreJudgedByCompletions }
+
+    // The reply to IMPLIES tells rules exactly where the key holds in every table of the schema, and else two rows that are
+    // such a table in which it fails; COVER tells the cover of the table's keys.
+    ensures implied { ImpliesTellsTheTruth }
+    ensures cover { CoverIsTold }
 
     // What each status says of the script, of source and station, and of their counts of faults.
     ensures read { WhereTells S.Source script.old (λ bytes. IsReadAs result bytes (S.rest script.new)) }

@@ -5,11 +5,15 @@ use Rattle.pk_values.specs.declared.refusal.Refusal.{Refusal}
 use Rattle.pk_values.specs.declared.refusal.Refusal.TheVariants.{NotStatement}
 use Rattle.pk_values.specs.Refusals.{first_some}
 use Rattle.pk_parse.specs.declared.statement.Statement.{Statement}
-use Rattle.pk_parse.specs.declared.statement.Statement.TheVariants.{Create, Drop, Insert as InsertInto, Update as UpdateIn, Delete as DeleteFrom, Select as SelectFrom, Show}
+use Rattle.pk_parse.specs.declared.statement.Statement.TheVariants.{Create, Drop, Insert as InsertInto, Update as UpdateIn, Delete as DeleteFrom, Select as SelectFrom, Show, Implies, Cover}
 use Rattle.pk_parse.specs.declared.query.What.{What}
 use Rattle.pk_parse.specs.declared.query.What.TheVariants.{All, Columns, Count}
 use Rattle.pk_parse.specs.Parsed.{parsed}
 use Rattle.pk_parse.specs.declared.parsing.ParseErr.{ParseErr}
+use Rattle.pk_values.specs.declared.key.KeyDecl.{KeyDecl}
+use Rattle.pk_schema.specs.Shapes.{key_of}
+use Rattle.pk_rule.specs.Plain.{Plain, plain_of}
+use Rattle.pk_imply.specs.Deriving.{implying_place}
 use Rattle.pk_exec.specs.declared.selected.Selected.{Selected}
 use Rattle.pk_engine.specs.Base.{Table}
 use Rattle.pk_engine.specs.State.{State}
@@ -20,6 +24,7 @@ use Rattle.pk_engine.specs.Drop.{drop_refusals, dropped}
 use Rattle.pk_engine.specs.Edits.{insert_refusals, inserted, update_refusals, updated_rows, delete_refusals, deleted_rows}
 use Rattle.pk_engine.specs.Select.{told_as, found, selected_rows}
 use Rattle.pk_engine.specs.Show.{shown_table}
+use Rattle.pk_engine.specs.Reasoning.{implies_refusals, implied_or, implied_told, cover_told}
 use Rattle.pk_engine.specs.Answer.{answer}
 use Rattle.pk_run.specs.Served.{is_served}
 use Rattle.pk_run.specs.Told.{step, refused, answer_to, is_refusal}
@@ -49,6 +54,10 @@ no_refusal All rows = refl
 no_refusal (Columns names) rows = refl
 no_refusal Count rows = refl
 
+no_refusal_of : (s : Plain) (k : KeyDecl) (o : Option ℕ) → is_refusal (implied_or s k o) ≡ false
+no_refusal_of s k (Some place) = refl
+no_refusal_of s k None = refl
+
 left_by_answer : (st : State) (s : Statement) → is_refusal (answer st s).reply ≡ true → (answer st s).next ≡ st
 unfolding answer
 left_by_answer st (Create d) h = left_by st (create_refusals st d) (created st d) refl h
@@ -59,6 +68,10 @@ left_by_answer st (DeleteFrom d) h = left_about st d.table (λ t. decided st (de
 left_by_answer st (SelectFrom s) h =
     left_about st s.table (λ t. decided st (select_refusals t.shape s) (selected_rows st t s)) (λ t. left_by st (select_refusals t.shape s) (selected_rows st t s) (no_refusal s.what (found t s))) h
 left_by_answer st (Show name) h = left_about st name (λ t. shown_table st t) (λ t none. refl) h
+left_by_answer st (Implies name k) h =
+    left_about st name (λ t. decided st (implies_refusals t k) (implied_told st t k))
+    (λ t. left_by st (implies_refusals t k) (implied_told st t k) (no_refusal_of (plain_of t.shape) (key_of t.shape.columns k) (implying_place (plain_of t.shape) (key_of t.shape.columns k)))) h
+left_by_answer st (Cover name) h = left_about st name (λ t. cover_told st t) (λ t none. refl) h
 left_by_answer st _ h = refl
 
 left_by_choice : (st : State) (line : ℕ) (s : Statement) (served : Bool)
