@@ -1,5 +1,6 @@
 pub mod Symbols
 pub mod Texts
+pub mod Kept
 pub mod Lexemes
 pub mod Pieces
 pub mod Tokens
