@@ -1,20 +1,16 @@
 -- Rows in the order of their ids, and tables whose rows are changed.
-use Rattle.std.proofs.Common.{◌≡◌, ℕ, zero, ◌+◌, ◌≤◌, ◌<◌, Bool, true, false, not, ◌==◌, ◌||◌, List, [], ◌∷◌, ◌++◌, length, map, set, get_or, Result, Ok, Err, Ordering, refl, sym, ◌∙◌, ap, arith, if◌then◌else◌, suc, subst, inl, inr}
+use Rattle.std.proofs.Common.{◌≡◌, ℕ, zero, ◌+◌, ◌≤◌, ◌<◌, Bool, true, false, not, ◌==◌, List, [], ◌∷◌, ◌++◌, length, map, set, get_or, Result, Ok, Err, refl, sym, ◌∙◌, ap, arith, if◌then◌else◌, suc, subst, inl, inr}
 use Rattle.std.specs.Prelude.{filter, nat_lt, cond}
-use Rattle.std.specs.List.{list_any}
 use Rattle.std.specs.List.Sorted.{IsBinarySearchResult, IsNonDecreasingBy}
 use Rattle.std.specs.Ordering.{nat_cmp, ordering_index}
-use Rattle.std.specs.declared.cmp.Ordering.TheVariants.{Less, Equal, Greater}
-use Rattle.std.specs.Cmp.{nat_cmp_is}
 use Rattle.std.proofs.lemmas.Bool.{cases_lt, eqb-true}
-use Rattle.std.proofs.lemmas.Map.Keys.{below_from_sorted}
-use Rattle.std.proofs.lemmas.List.Sorted.{searched}
-use Rattle.std.specs.Result.{is_ok}
 use Rattle.pk_values.specs.declared.placed.Placed.{Placed}
 use Rattle.pk_values.specs.declared.changes.Changes.{Changes}
 use Rattle.pk_exec.specs.Rows.{AscendFrom}
+use Rattle.pk_guard.proofs.ChangedLemmas.{less_numbers}
+use Rattle.pk_guard.proofs.IdLemmas.{equal_numbers, greater_numbers, index_least}
 use Rattle.pk_engine.specs.Base.{Table, has_id, replaced_by, with_row, with_rows, without_rows, changed_by}
-use Rattle.pk_engine.specs.Rows.{IdsRise, IdsAscend}
+use Rattle.pk_engine.specs.Rows.{IdsRise}
 
 -- ---- what changes of rows leave
 
@@ -43,53 +39,6 @@ pub rise_ascends : (least next : ℕ) (ps : List Placed) → IdsRise least ps ne
 rise_ascends least next [] rise = tt
 rise_ascends least next (p ∷ ps) rise = (rise.0, rise_ascends (p.id + 1) next ps rise.1)
 
--- ---- numbers
-
-unlike : (o : Ordering) → Less ≡ o → o ≡ Equal → ⊥
-unlike o less equal = cc
-
-unlike_greater : (o : Ordering) → Greater ≡ o → o ≡ Equal → ⊥
-unlike_greater o greater equal = cc
-
-equal_numbers : (a b : ℕ) → nat_cmp a b ≡ Equal → a ≡ b
-equal_numbers a b equal = elim (cases_lt a b) as (λ _. a ≡ b) [
-  | inl lt ↦ absurd (unlike (nat_cmp a b) (nat_cmp_is a b Less lt) equal)
-  | inr ge ↦ elim (cases_lt b a) as (λ _. a ≡ b) [
-    | inl gt ↦ absurd (unlike_greater (nat_cmp a b) (nat_cmp_is a b Greater gt) equal)
-    | inr le ↦ omega arith
-  ]
-]
-
-less_numbers : (a b : ℕ) → nat_cmp a b ≡ Less → a < b
-less_numbers a b less = elim (cases_lt a b) as (λ _. a < b) [
-  | inl lt ↦ lt
-  | inr ge ↦ elim (cases_lt b a) as (λ _. a < b) [
-    | inl gt ↦ absurd (go (nat_cmp a b) (nat_cmp_is a b Greater gt) less)
-    | inr le ↦ absurd (go_equal (nat_cmp a b) (nat_cmp_is a b Equal (omega (arith, ge, le))) less)
-  ]
-]
-  where
-    go : (o : Ordering) → Greater ≡ o → o ≡ Less → ⊥
-    go o greater less = cc
-
-    go_equal : (o : Ordering) → Equal ≡ o → o ≡ Less → ⊥
-    go_equal o equal less = cc
-
-greater_numbers : (a b : ℕ) → nat_cmp a b ≡ Greater → b < a
-greater_numbers a b greater = elim (cases_lt b a) as (λ _. b < a) [
-  | inl gt ↦ gt
-  | inr ge ↦ elim (cases_lt a b) as (λ _. b < a) [
-    | inl lt ↦ absurd (go (nat_cmp a b) (nat_cmp_is a b Less lt) greater)
-    | inr le ↦ absurd (go_equal (nat_cmp a b) (nat_cmp_is a b Equal (omega (arith, ge, le))) greater)
-  ]
-]
-  where
-    go : (o : Ordering) → Less ≡ o → o ≡ Greater → ⊥
-    go o less greater = cc
-
-    go_equal : (o : Ordering) → Equal ≡ o → o ≡ Greater → ⊥
-    go_equal o equal greater = cc
-
 -- ---- a row is sought by its id
 
 pub blank_row : Placed
@@ -109,18 +58,6 @@ ids_rise least (r ∷ rs) zero (suc j) d ascend lt within =
     let above = ids_above (r.id + 1) rs j d ascend.1 (omega (arith, within)) in
     omega (arith, above)
 ids_rise least (r ∷ rs) (suc i) (suc j) d ascend lt within = ids_rise (r.id + 1) rs i j d ascend.1 (omega (arith, lt)) (omega (arith, within))
-
-index_least : (a b x : ℕ) → a ≤ b → ordering_index (nat_cmp a x) ≤ ordering_index (nat_cmp b x)
-index_least a b x le = go (nat_cmp a x) (nat_cmp b x) refl refl
-  where
-    go : (o p : Ordering) → nat_cmp a x ≡ o → nat_cmp b x ≡ p → ordering_index o ≤ ordering_index p
-    go Less p e f = omega arith
-    go Equal Less e f = (let same = equal_numbers a x e in let less = less_numbers b x f in absurd (omega (arith, same, less, le)))
-    go Equal Equal e f = omega arith
-    go Equal Greater e f = omega arith
-    go Greater Less e f = (let more = greater_numbers a x e in let less = less_numbers b x f in absurd (omega (arith, more, less, le)))
-    go Greater Equal e f = (let more = greater_numbers a x e in let same = equal_numbers b x f in absurd (omega (arith, more, same, le)))
-    go Greater Greater e f = omega arith
 
 comparisons_rise : (id least : ℕ) (rows : List Placed) → AscendFrom least rows → IsNonDecreasingBy (λ (p : Placed). ordering_index (nat_cmp p.id id)) rows
 comparisons_rise id least rows ascend i j d le within = elim (cases_lt i j) as (λ _. ordering_index (nat_cmp (get_or rows i d).id id) ≤ ordering_index (nat_cmp (get_or rows j d).id id)) [
@@ -197,47 +134,7 @@ replaced_none p (r ∷ rs) none =
     ap (λ (rest : List Placed). r ∷ rest) (replaced_none p rs (λ k within same. none (suc k) (omega (arith, within)) same))
     ∙ sym (kept_head (r.id == p.id) p r (map (replaced_by p) rs) differ)
 
--- ---- an id is sought among others
-
-any_at : (ids : List ℕ) (id i : ℕ) → i < length ids → get_or ids i 0 ≡ id → list_any (λ k. k == id) ids ≡ true
-any_at [] id i within same = absurd (omega (arith, within))
-any_at (k ∷ ks) id zero within same = true_or (k == id) _ (eq_test k id same)
-  where
-    eq_test : (m n : ℕ) → m ≡ n → (m == n) ≡ true
-    eq_test m n e = grind (arith, e)
-
-    true_or : (a b : Bool) → a ≡ true → (a || b) ≡ true
-    true_or a b e = rw e refl
-any_at (k ∷ ks) id (suc i) within same = or_true (k == id) _ (any_at ks id i (omega (arith, within)) same)
-  where
-    or_true : (a b : Bool) → b ≡ true → (a || b) ≡ true
-    or_true true b e = refl
-    or_true false b e = e
-
-none_at : (ids : List ℕ) (id : ℕ) → ((i : ℕ) → i < length ids → get_or ids i 0 ≡ id → ⊥) → list_any (λ k. k == id) ids ≡ false
-none_at [] id none = refl
-none_at (k ∷ ks) id none =
-    or_both (k == id) _ (other_test (k == id) (λ same. none 0 (omega arith) (eqb-true k id same))) (none_at ks id (λ i within same. none (suc i) (omega (arith, within)) same))
-  where
-    or_both : (a b : Bool) → a ≡ false → b ≡ false → (a || b) ≡ false
-    or_both a b e f = rw (e, f) refl
-
-ids_not_below : (ids : List ℕ) → IdsAscend ids → (i j : ℕ) → i ≤ j → j < length ids → get_or ids i 0 ≤ get_or ids j 0
-ids_not_below ids ascend i j le within = elim (cases_lt i j) as (λ _. get_or ids i 0 ≤ get_or ids j 0) [
-  | inl lt ↦ (let below = below_from_sorted ids i j 0 ascend lt within in omega (arith, below))
-  | inr ge ↦ (let same : i ≡ j = omega (arith, le, ge) in rw same (omega arith))
-]
-
-pub among_searched : (ids : List ℕ) (id : ℕ) (r : Result ℕ ℕ) → IsBinarySearchResult (λ k. nat_cmp k id) ids r → IdsAscend ids → is_ok r ≡ list_any (λ k. k == id) ids
-among_searched ids id (Ok i) is ascend =
-    let w = searched ids id (Ok i) is (ids_not_below ids ascend) in
-    sym (any_at ids id i w.0 w.1)
-among_searched ids id (Err i) is ascend =
-    let w = searched ids id (Err i) is (ids_not_below ids ascend) in
-    sym (none_at ids id (λ k within same. elim (cases_lt k i) as (λ _. ⊥) [
-      | inl before ↦ (let less = w.1 k before in omega (arith, less, same))
-      | inr behind ↦ (let more = w.2 k behind within in omega (arith, more, same))
-    ]))
+-- ---- rows that are taken out
 
 -- where no id is given nothing is taken out
 pub none_out : (ids : List ℕ) (rows : List Placed) → length ids ≡ 0 → rows ≡ filter (λ (p : Placed). not (has_id ids p)) rows

@@ -4,7 +4,7 @@ use Rattle.std.specs.List.{list_any}
 use Rattle.std.specs.List.Sorted.{IsBinarySearchResult, IsNonDecreasingBy, IsStrictlySortedBy}
 use Rattle.std.specs.Ordering.{nat_cmp, ordering_index}
 use Rattle.std.specs.Cmp.{nat_cmp_is}
-use Rattle.std.specs.Result.{is_err}
+use Rattle.std.specs.Result.{is_ok, is_err}
 use Rattle.std.specs.declared.cmp.Ordering.TheVariants.{Less, Equal, Greater}
 use Rattle.std.proofs.lemmas.Bool.{cases_lt, lt-ltb, le-ltb, eq-eqb, ne_eqb}
 use Rattle.std.proofs.lemmas.List.{length-drop, take_all}
@@ -17,7 +17,7 @@ use Rattle.pk_guard.proofs.ChangedLemmas.{Above, Ascends, ascends_from, above_lo
 
 -- ---- answers of a comparison
 
-equal_numbers : (a b : ℕ) → nat_cmp a b ≡ Equal → a ≡ b
+pub equal_numbers : (a b : ℕ) → nat_cmp a b ≡ Equal → a ≡ b
 equal_numbers a b equal = elim (cases_lt a b) as (λ _. a ≡ b) [
   | inl lt ↦ absurd (less (nat_cmp a b) (nat_cmp_is a b Less lt) equal)
   | inr ge ↦ elim (cases_lt b a) as (λ _. a ≡ b) [
@@ -32,7 +32,7 @@ equal_numbers a b equal = elim (cases_lt a b) as (λ _. a ≡ b) [
     more : (o : Ordering) → Greater ≡ o → o ≡ Equal → ⊥
     more o is equal = cc
 
-greater_numbers : (a b : ℕ) → nat_cmp a b ≡ Greater → b < a
+pub greater_numbers : (a b : ℕ) → nat_cmp a b ≡ Greater → b < a
 greater_numbers a b greater = elim (cases_lt b a) as (λ _. b < a) [
   | inl gt ↦ gt
   | inr ge ↦ elim (cases_lt a b) as (λ _. b < a) [
@@ -47,7 +47,7 @@ greater_numbers a b greater = elim (cases_lt b a) as (λ _. b < a) [
     same : (o : Ordering) → Equal ≡ o → o ≡ Greater → ⊥
     same o is greater = cc
 
-index_least : (a b x : ℕ) → a ≤ b → ordering_index (nat_cmp a x) ≤ ordering_index (nat_cmp b x)
+pub index_least : (a b x : ℕ) → a ≤ b → ordering_index (nat_cmp a x) ≤ ordering_index (nat_cmp b x)
 index_least a b x le = go (nat_cmp a x) (nat_cmp b x) refl refl
   where
     go : (o p : Ordering) → nat_cmp a x ≡ o → nat_cmp b x ≡ p → ordering_index o ≤ ordering_index p
@@ -148,18 +148,23 @@ ids_not_below ids ascend i j le within = elim (cases_lt i j) as (λ _. get_or id
   | inr ge ↦ (let same : i ≡ j = omega (arith, le, ge) in rw same (omega arith))
 ]
 
-pub stays_searched : (ids : List ℕ) (p : Placed) (r : Result ℕ ℕ) → IsBinarySearchResult (λ k. nat_cmp k p.id) ids r → IsStrictlySortedBy nat_cmp ids
-    → is_err r ≡ stays ids p
-stays_searched ids p (Ok i) is ascend =
-    let w = searched ids p.id (Ok i) is (ids_not_below ids ascend) in
-    rw (any_at ids p.id i w.0 w.1) refl
-stays_searched ids p (Err i) is ascend =
-    let w = searched ids p.id (Err i) is (ids_not_below ids ascend) in
-    let none = none_at ids p.id (λ k within same. elim (cases_lt k i) as (λ _. ⊥) [
+-- a search finds an id exactly where it is among the others
+pub among_searched : (ids : List ℕ) (id : ℕ) (r : Result ℕ ℕ) → IsBinarySearchResult (λ k. nat_cmp k id) ids r → IsStrictlySortedBy nat_cmp ids
+    → is_ok r ≡ list_any (λ k. k == id) ids
+among_searched ids id (Ok i) is ascend =
+    let w = searched ids id (Ok i) is (ids_not_below ids ascend) in
+    sym (any_at ids id i w.0 w.1)
+among_searched ids id (Err i) is ascend =
+    let w = searched ids id (Err i) is (ids_not_below ids ascend) in
+    sym (none_at ids id (λ k within same. elim (cases_lt k i) as (λ _. ⊥) [
       | inl before ↦ (let less = w.1 k before in omega (arith, less, same))
       | inr behind ↦ (let more = w.2 k behind within in omega (arith, more, same))
-    ]) in
-    rw none refl
+    ]))
+
+pub stays_searched : (ids : List ℕ) (p : Placed) (r : Result ℕ ℕ) → IsBinarySearchResult (λ k. nat_cmp k p.id) ids r → IsStrictlySortedBy nat_cmp ids
+    → is_err r ≡ stays ids p
+stays_searched ids p (Ok i) is ascend = rw (sym (among_searched ids p.id (Ok i) is ascend)) refl
+stays_searched ids p (Err i) is ascend = rw (sym (among_searched ids p.id (Err i) is ascend)) refl
 
 -- ---- what is left of a slice
 

@@ -22,6 +22,7 @@ use Rattle.pk_schema.specs.Admits.{Admits}
 use Rattle.pk_schema.specs.Shapes.{Shape, IsShape, kinds_of}
 use Rattle.pk_schema.proofs.FitLemmas.{admitted_rows_fit}
 use Rattle.pk_rule.specs.Tables.{HoldsAs, KeyHolds}
+use Rattle.pk_rule.proofs.RuleLemmas.{one_holds}
 use Rattle.pk_guard.specs.Breaks.{are_similar, breaks, first_pair, break_of, first_broken, first_break}
 use Rattle.pk_guard.specs.Holds.{KeysHold, values_of}
 use Rattle.pk_guard.specs.Splits.{AreWide}
@@ -143,14 +144,11 @@ none_broken kinds place (k ∷ ks) rows none zero key is =
 none_broken kinds place (k ∷ ks) rows none (suc i) key is =
     none_broken kinds (place + 1) ks rows (neither (option_map (break_of kinds place k) (first_pair k rows)) (first_broken kinds (place + 1) ks rows) none).1 i key is
 
-key_held : (s : Shape) (rows : List Placed) (i : ℕ) (k : KeyDecl) → KeysHold s rows → slice_get s.keys i ≡ Some k → KeyHolds (kinds_of s.columns) (values_of rows) k
-key_held s rows i k hold is =
-    subst (KeyHolds (kinds_of s.columns) (values_of rows)) (get_or_from_slice_get s.keys i k k is) (hold i k (slice_get_within s.keys i k is))
-
 -- no two rows break a key of a table whose keys hold
 pub key_unbroken : (s : Shape) (rows : List Placed) (i : ℕ) (k : KeyDecl) → All (λ (p : Placed). Admits s p.row) rows → KeysHold s rows → slice_get s.keys i ≡ Some k
     → first_pair k rows ≡ None
-key_unbroken s rows i k admitted hold is = held_unbroken (kinds_of s.columns) rows k (fit_admitted s rows admitted) (key_held s rows i k hold is)
+key_unbroken s rows i k admitted hold is =
+    held_unbroken (kinds_of s.columns) rows k (fit_admitted s rows admitted) (one_holds (kinds_of s.columns) (values_of rows) s.keys i k hold is)
 
 pub keys_hold_nothing_breaks : (s : Shape) (rows : List Placed) → IsShape s → All (λ (p : Placed). Admits s p.row) rows
     → (KeysHold s rows → first_break s rows ≡ None) × (first_break s rows ≡ None → KeysHold s rows)

@@ -13,9 +13,10 @@ use Rattle.pk_values.specs.declared.rule.Rule.TheVariants.{Declared, Strengthen,
 use Rattle.pk_values.specs.declared.value.Value.{Value}
 use Rattle.pk_values.specs.ColumnSet.{IsColumnSet, is_subset}
 use Rattle.pk_rule.specs.Plain.{Plain, IsPlain}
-use Rattle.pk_rule.specs.Tables.{KeyHolds, KeysHold, TableOf, Implied}
+use Rattle.pk_rule.specs.Tables.{KeyHolds, TableOf, Implied}
 use Rattle.pk_rule.specs.Rule.{alone_implies, is_implied}
 use Rattle.pk_rule.specs.Laws.{key_over}
+use Rattle.pk_rule.proofs.RuleLemmas.{one_holds}
 use Rattle.pk_rule.proofs.StepLemmas.{step_holds}
 use Rattle.pk_imply.specs.Deriving.{implying_place, column_rules, rules_between, rules_from, rules_of, Leads, Derives}
 use Rattle.pk_imply.proofs.PlaceLemmas.{got_in}
@@ -131,15 +132,6 @@ kept_by_rules s rows (Extend more ∷ rules) of x k plain x_set table leads hold
     kept_by_rules s rows rules of more k plain leads.0 table leads.2
     (turn_step s rows of of x more plain leads.0 table (alone_from s.known (key_over of x) (key_over of more) leads.1 (fits_own s.known (key_over of x))) holds)
 
-declared_holds : (s : Plain) (rows : List (List Value)) (keys : List KeyDecl) (i : ℕ) (d : KeyDecl) → slice_get keys i ≡ Some d
-    → KeysHold s.kinds rows keys → KeyHolds s.kinds rows d
-declared_holds s rows [] i d got hold = cc
-declared_holds s rows (e ∷ es) zero d got hold = subst (KeyHolds s.kinds rows) (some_same e d got) hold.0
-  where
-    some_same : (e d : KeyDecl) → Some e ≡ Some d → e ≡ d
-    some_same e d is = cc
-declared_holds s rows (e ∷ es) (suc i) d got hold = declared_holds s rows es i d got hold.1
-
 pub derived_holds : (s : Plain) (rules : List Rule) (k : KeyDecl) → IsPlain s → Derives s rules k → Implied s k
 derived_holds s [] k plain derives = absurd derives
 derived_holds s (Strengthen ∷ rules) k plain derives = absurd derives
@@ -148,4 +140,4 @@ derived_holds s (Extend more ∷ rules) k plain derives = absurd derives
 derived_holds s (Declared place ∷ rules) k plain derives = λ rows table.
     let d_set = inside_set s derives.1.columns plain (key_inside s derives.1 plain (got_in s.keys derives.0 derives.1 derives.3)) in
     kept_by_rules s rows rules derives.1.sort derives.1.columns k plain d_set table derives.4
-    (declared_holds s rows s.keys derives.0 derives.1 derives.3 table.2)
+    (one_holds s.kinds rows s.keys derives.0 derives.1 table.2 derives.3)

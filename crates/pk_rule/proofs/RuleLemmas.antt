@@ -1,8 +1,10 @@
 -- The rule, from the steps one way and from the two rows the other.
 use Rattle.std.proofs.Common.{◌≡◌, refl, sym, ◌∙◌, subst, ℕ, suc, ◌^◌, ◌<◌, ◌≤◌, Bool, true, false, not, ◌&&◌, ◌||◌, List, [], ◌∷◌, length, inl, inr, arith}
+use Rattle.std.specs.Prelude.{Some, slice_get}
 use Rattle.std.specs.List.{list_any, All}
 use Rattle.std.proofs.lemmas.Bool.{and_from, or_parts, cases_Bool, both_ways}
-use Rattle.std.proofs.lemmas.List.Elements.{All-head, All-tail}
+use Rattle.std.proofs.lemmas.List.Elements.{All-nil, All-cons, All-head, All-tail}
+use Rattle.std.proofs.lemmas.Option.{get_or_from_slice_get, slice_get_within}
 use Rattle.std.proofs.Math.Pow.{pow_mono}
 use Rattle.pk_values.specs.declared.key.KeyDecl.{KeyDecl}
 use Rattle.pk_values.specs.declared.key.Sort.{Sort}
@@ -48,10 +50,10 @@ some_holds :
 some_holds s k rows [] plain inside fit known some hold = cc
 some_holds s k rows (d ∷ ds) plain inside fit known some hold =
     elim (cases_Bool (alone_implies s.known d k)) [
-      | inl here ↦ alone_holds s d k rows plain inside fit known here hold.0
+      | inl here ↦ alone_holds s d k rows plain inside fit known here (All-head (KeyHolds s.kinds rows) d ds hold)
       | inr not_here ↦
           some_holds s k rows ds plain inside fit known
-          (subst (λ t. (t || list_any (λ e. alone_implies s.known e k) ds) ≡ true) not_here some) hold.1
+          (subst (λ t. (t || list_any (λ e. alone_implies s.known e k) ds) ≡ true) not_here some) (All-tail (KeyHolds s.kinds rows) d ds hold)
     ]
 
 pub implied_holds : (s : Plain) (k : KeyDecl) → IsPlain s → k.columns < 2 ^ length s.kinds → is_implied s k ≡ true → Implied s k
@@ -117,14 +119,14 @@ rows_related s d k inside = by_sort d.sort
 keys_hold :
     (s : Plain) (k : KeyDecl) (keys : List KeyDecl) → All (Inside (length s.kinds)) keys → list_any (λ d. alone_implies s.known d k) keys ≡ false
     → KeysHold s.kinds (low_row s k ∷ high_row s k ∷ []) keys
-keys_hold s k [] inside none = tt
+keys_hold s k [] inside none = All-nil (KeyHolds s.kinds (low_row s k ∷ high_row s k ∷ []))
 keys_hold s k (d ∷ ds) inside none =
     let parts = or_parts (alone_implies s.known d k) (list_any (λ e. alone_implies s.known e k) ds) none in
-    let here = All-head (Inside (length s.kinds)) d ds inside in (
-      two_hold s.kinds (low_row s k) (high_row s k) (columns d.columns) d.sort (low_row_fits s k) (high_row_fits s k) (columns_below d.columns (length s.kinds) here)
-          (rows_related s d k here ∙ parts.0),
-      keys_hold s k ds (All-tail (Inside (length s.kinds)) d ds inside) parts.1,
-    )
+    let here = All-head (Inside (length s.kinds)) d ds inside in
+    All-cons (KeyHolds s.kinds (low_row s k ∷ high_row s k ∷ [])) d ds
+    (two_hold s.kinds (low_row s k) (high_row s k) (columns d.columns) d.sort (low_row_fits s k) (high_row_fits s k) (columns_below d.columns (length s.kinds) here)
+    (rows_related s d k here ∙ parts.0))
+    (keys_hold s k ds (All-tail (Inside (length s.kinds)) d ds inside) parts.1)
 
 pub two_rows_are_table : (s : Plain) (k : KeyDecl) → IsPlain s → is_implied s k ≡ false → TableOf s (low_row s k ∷ high_row s k ∷ [])
 unfolding is_implied
@@ -169,3 +171,10 @@ one_named s d k named = first (alone_implies s.known d k) named
 pub one_named_back : (s : Plain) (d k : KeyDecl) → alone_implies s.known d k ≡ true → is_implied (with_key s d) k ≡ true
 unfolding is_implied
 one_named_back s d k alone = rw alone refl
+
+-- ---- one key among those that hold
+
+pub one_holds : (kinds : List Kind) (rows : List (List Value)) (keys : List KeyDecl) (i : ℕ) (k : KeyDecl) → KeysHold kinds rows keys
+    → slice_get keys i ≡ Some k → KeyHolds kinds rows k
+one_holds kinds rows keys i k hold is =
+    subst (KeyHolds kinds rows) (get_or_from_slice_get keys i k k is) (hold i k (slice_get_within keys i k is))

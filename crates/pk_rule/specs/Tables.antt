@@ -1,5 +1,5 @@
 -- The tables of a schema, and the keys that hold in all of them.
-use Rattle.std.specs.Prelude.{ℕ, Bool, not, List, [], ◌∷◌, IsTrue}
+use Rattle.std.specs.Prelude.{ℕ, Bool, not, List, IsTrue, All}
 use Rattle.std.specs.List.{list_all}
 use Rattle.pk_values.specs.declared.key.KeyDecl.{KeyDecl}
 use Rattle.pk_values.specs.declared.key.Sort.{Sort}
@@ -23,8 +23,7 @@ KeyHolds kinds rows k = HoldsAs k.sort kinds rows (columns k.columns)
 
 -- every one of the keys holds in the table
 abbrev pub KeysHold : List Kind → List (List Value) → List KeyDecl → Type 0
-KeysHold kinds rows [] = Unit {0}
-KeysHold kinds rows (k ∷ ks) = KeyHolds kinds rows k × KeysHold kinds rows ks
+KeysHold kinds rows keys = All (KeyHolds kinds rows) keys
 
 -- the row is null in none of the columns
 abbrev pub is_known_on : List ℕ → List Value → Bool

@@ -23,6 +23,7 @@ pub use making::MakeErr;
 pub use named::{Named, column_named, column_place, copied_column, copied_columns, twice};
 pub use pk_parse::ColumnDecl as Column;
 pub use schema::Schema;
+pub use sets::key_of;
 
 #[cfg(test)]
 mod tests;

@@ -1,6 +1,6 @@
 //! Sets of columns.
 
-ghost use Rattle.std.specs.Prelude.{◌≡◌, ◌≤◌, ◌<◌, ◌==◌, ◌&&◌, ◌||◌, ℕ, length, map, IfOk};
+ghost use Rattle.std.specs.Prelude.{◌≡◌, ◌≤◌, ◌<◌, ◌^◌, ◌==◌, ◌&&◌, ◌||◌, ℕ, length, map, IfOk};
 ghost use Rattle.pk_values.specs.ColumnSet.{IsColumnSet, has_column, columns as numbers};
 ghost use Rattle.std.specs.List.{range_with_len};
 ghost use Rattle.pk_schema.specs.Shapes.{all_of, not_null_of, named_of, key_of};
@@ -49,9 +49,11 @@ pub(crate) fn keys_of(
     Ok(keys)
 }
 
-fn key_of(columns: &[ColumnDecl], text: &KeyText) -> KeyDecl
+/// The key over the columns that a text names, in whatever order; a name that is no column adds none.
+pub fn key_of(columns: &[ColumnDecl], text: &KeyText) -> KeyDecl
     requires { length columns.now ≤ 32 }
-    ensures { result ≡ key_of columns.now text.now }
+    ensures key { result ≡ key_of columns.now text.now }
+    ensures within { result.columns < 2 ^ length columns.now }
 {
     KeyDecl {
         sort: text.sort,
