@@ -3,3 +3,4 @@ pub mod Tables
 pub mod Rule
 pub mod TwoRows
 pub mod Laws
+pub mod Edges

@@ -1,6 +1,7 @@
 //! What a schema implies, told of all its tables. A law is a contract; its function does nothing.
 
 ghost use Rattle.pk_rule.specs.Laws.{TheRuleIsTheTruth, OneKeyAloneImplies, TwoRowsRefute, ShapesArePlain, Extension, Weakening, Strengthening};
+ghost use Rattle.pk_rule.specs.Edges.{RuleAtItsEdges, TwoRowsAtTheirEdges, KnownAtItsEdges};
 
 /// A key holds in every table of a schema exactly where some declared key alone implies it: its columns
 /// are among the key's, and for a certain key it is certain or has only NOT NULL columns.
@@ -38,4 +39,12 @@ pub fn weakening()
 /// A possible key holds as a certain key too where no row is null in its columns.
 pub fn strengthening()
     ensures { Strengthening }
+{}
+
+/// What the definitions give at their edges, computed: no key, no column, all of 32, and two causes at
+/// once.
+pub fn definitions_at_their_edges()
+    ensures rule { RuleAtItsEdges }
+    ensures rows { TwoRowsAtTheirEdges }
+    ensures known { KnownAtItsEdges }
 {}
