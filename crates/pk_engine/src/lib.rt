@@ -18,6 +18,3 @@ pub use laws::{
     selects_tell_their_rows, set_rows_keep_other_columns, statements_leave_other_tables,
     tables_are_made_and_dropped, the_cover_is_told, updates_set_rows,
 };
-
-#[cfg(test)]
-mod tests;

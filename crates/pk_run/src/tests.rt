@@ -1,4 +1,5 @@
 use super::*;
+use pk_engine::Engine;
 use pk_lex::{Body, Piece, Token, lex};
 use pk_world::{MemorySource, MemoryStation, Pull, Source};
 use std::alloc::Global;
@@ -30,6 +31,14 @@ fn run(
     let mut station = MemoryStation::new(alloc, b"", b"", tells)?;
     let status = run_keytab(alloc, words.as_slice(), &mut source, &mut station);
     Ok((status, Vec::from_slice(alloc, station.told())?))
+}
+
+#[test]
+fn a_new_engine_is_empty(rt: HostRuntime) -> Result<(), Fail> {
+    let engine = Engine::empty(rt.alloc());
+    assert_eq!(rt; engine.commit_number(), 0);
+    assert_eq!(rt; engine.row_count(), 0);
+    Ok(())
 }
 
 #[test]
