@@ -1,12 +1,12 @@
 -- What a schema implies. s is a plain schema, k a key over its columns, and rows a table.
-use Rattle.std.specs.Prelude.{ℕ, ◌^◌, ◌<◌, List, [], ◌∷◌, length, IsTrue, IsFalse}
+use Rattle.std.specs.Prelude.{◌≡◌, ℕ, ◌^◌, ◌<◌, List, [], ◌∷◌, length, IsTrue, IsFalse}
 use Rattle.pk_values.specs.declared.key.KeyDecl.{KeyDecl}
 use Rattle.pk_values.specs.declared.key.Sort.{Sort}
 use Rattle.pk_values.specs.declared.key.Sort.TheVariants as sorts
 use Rattle.pk_values.specs.declared.kind.Kind.{Kind}
 use Rattle.pk_values.specs.declared.value.Value.{Value}
 use Rattle.pk_values.specs.ColumnSet.{IsColumnSet, is_subset}
-use Rattle.pk_schema.specs.Shapes.{Shape, IsShape}
+use Rattle.pk_schema.specs.Shapes.{Shape, IsShape, name_at}
 use Rattle.pk_similar.specs.Laws.{all_fit}
 use Rattle.pk_rule.specs.Plain.{Plain, IsPlain, plain_of}
 use Rattle.pk_rule.specs.Tables.{KeyHolds, Implied, Refutes, all_known}
@@ -40,6 +40,11 @@ abbrev pub TwoRowsRefute : Type 0
 TwoRowsRefute =
     (s : Plain) (k : KeyDecl) → IsPlain s → k.columns < 2 ^ length s.kinds → IsFalse (is_implied s k)
     → Refutes s k (low_row s k ∷ high_row s k ∷ [])
+
+-- No two columns of a schema have the same name.
+abbrev pub ColumnsHaveDistinctNames : Type 0
+ColumnsHaveDistinctNames =
+    (s : Shape) (j k : ℕ) → IsShape s → j < length s.columns → k < length s.columns → name_at s.columns j ≡ name_at s.columns k → j ≡ k
 
 -- what is plain of a schema's shape is a plain schema
 abbrev pub ShapesArePlain : Type 0

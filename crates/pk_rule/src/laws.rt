@@ -1,6 +1,6 @@
 //! What a schema implies, told of all its tables. A law is a contract; its function does nothing.
 
-ghost use Rattle.pk_rule.specs.Laws.{TheRuleIsTheTruth, OneKeyAloneImplies, TwoRowsRefute, ShapesArePlain, Extension, Weakening, Strengthening};
+ghost use Rattle.pk_rule.specs.Laws.{TheRuleIsTheTruth, OneKeyAloneImplies, TwoRowsRefute, ColumnsHaveDistinctNames, ShapesArePlain, Extension, Weakening, Strengthening};
 ghost use Rattle.pk_rule.specs.Edges.{RuleAtItsEdges, TwoRowsAtTheirEdges, KnownAtItsEdges};
 
 /// A key holds in every table of a schema exactly where some declared key alone implies it: its columns
@@ -19,6 +19,11 @@ pub fn one_key_alone_implies()
 /// holds.
 pub fn two_rows_refute()
     ensures { TwoRowsRefute }
+{}
+
+/// No two columns of a schema have the same name.
+pub fn columns_have_distinct_names()
+    ensures { ColumnsHaveDistinctNames }
 {}
 
 /// The columns and keys of a valid schema are a plain schema, so that all this holds of it.

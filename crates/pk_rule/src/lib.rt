@@ -17,6 +17,6 @@
 mod laws;
 
 pub use laws::{
-    definitions_at_their_edges, extension, one_key_alone_implies, shapes_are_plain, strengthening,
-    the_rule_is_the_truth, two_rows_refute, weakening,
+    columns_have_distinct_names, definitions_at_their_edges, extension, one_key_alone_implies,
+    shapes_are_plain, strengthening, the_rule_is_the_truth, two_rows_refute, weakening,
 };
