@@ -1,5 +1,8 @@
 //! The program `keytab`: the words after its name say what to do. The script is standard input, the
 //! replies go to standard output, and one fault line at most to standard error.
+//!
+//! Contracts see an `Input` and an `Output` as the source and the station that they are: by the bytes that
+//! their reader has left and their writer has taken, where std knows these, and by their counts of faults.
 #![tactic(auto)]
 
 mod arguments;

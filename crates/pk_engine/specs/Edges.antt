@@ -1,7 +1,6 @@
 -- The machine at its edges, computed: tables, changed rows, entries and limits, where none, the first and the last stand, and where
 -- two things come at once.
 use Rattle.std.specs.Prelude.{◌≡◌, ℕ, ◌-◌, true, false, codes, List, [], ◌∷◌, replicate, Option, Some, None, pos}
-use Rattle.pk_values.specs.declared.changes.Changes.{Changes}
 use Rattle.pk_values.specs.declared.key.Sort.TheVariants.{Possible}
 use Rattle.pk_values.specs.declared.kind.Kind.TheVariants as kinds
 use Rattle.pk_values.specs.declared.placed.Placed.{Placed}
@@ -72,6 +71,7 @@ pub record ChangesAtTheirEdges : Type 0 where
   pub all_gone : Becomes (4 ∷ 2 ∷ 3 ∷ []) [] 5 []
   pub in_its_place : Becomes [] (placed 2 one ∷ []) 5 (placed 2 one ∷ placed 4 Null ∷ [])
   pub at_the_end : Becomes [] (placed 5 one ∷ placed 6 Null ∷ []) 7 (placed 2 Null ∷ placed 4 Null ∷ placed 5 one ∷ placed 6 Null ∷ [])
+  pub gone_before_put : Becomes (2 ∷ []) (placed 2 one ∷ []) 5 (placed 4 Null ∷ [])
   pub gone_ids_stay_free : Becomes [] (placed 3 one ∷ []) 5 (placed 2 Null ∷ placed 4 Null ∷ [])
   pub no_entry : Change [] (2 ∷ 4 ∷ []) []
   pub all_kept : Change (Kept 2 (Null ∷ []) ∷ Kept 4 (Null ∷ []) ∷ []) [] []

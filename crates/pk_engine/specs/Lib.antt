@@ -19,3 +19,4 @@ pub mod Stands
 pub mod Laws
 pub mod KeyLaws
 pub mod ReasonLaws
+pub mod Edges

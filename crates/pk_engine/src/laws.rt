@@ -5,6 +5,7 @@ ghost use Rattle.pk_engine.specs.Base.{empty_base};
 ghost use Rattle.pk_engine.specs.Valid.{IsValid, AnswersKeepValid};
 ghost use Rattle.pk_engine.specs.KeyLaws.{KeysAreJudgedByCompletions};
 ghost use Rattle.pk_engine.specs.ReasonLaws.{ImpliesTellsTheTruth, CoverIsTold};
+ghost use Rattle.pk_engine.specs.Edges.{TablesAtTheirEdges, ChangesAtTheirEdges, LimitsAtTheirEdges, RestAtItsEdges};
 ghost use Rattle.pk_engine.specs.Laws.{SelectsChangeNothing, RefusalsChangeNothing, OtherTablesStay, CreatedTablesAreThere, DroppedTablesAreGone, InsertsAddRows, UpdatesSetRows, OtherColumnsStay, SetColumnsAreSet, DeletesLeaveTheRest, EntriesAreCommitted, SelectsTellTheirRows, WholeRowsAreTold, RowsArePutInOrder, CountsAreOfTheRowsShown};
 
 /// From the empty base on, every base is within its limits and has its tables in strict byte order of
@@ -94,4 +95,13 @@ pub fn implies_tells_the_truth()
 /// The reply to COVER tells the cover of the table's keys.
 pub fn the_cover_is_told()
     ensures { CoverIsTold }
+{}
+
+/// What the definitions give at their edges, computed: none and the first of what there may be, each
+/// limit and one past it, and two causes at once.
+pub fn definitions_at_their_edges()
+    ensures tables { TablesAtTheirEdges }
+    ensures changes { ChangesAtTheirEdges }
+    ensures limits { LimitsAtTheirEdges }
+    ensures rest { RestAtItsEdges }
 {}

@@ -1,7 +1,6 @@
 -- Breaks and changed rows at their edges, computed, over a INTEGER, which is the set 1, and b TEXT, which is 2.
-use Rattle.std.specs.Prelude.{◌≡◌, ℕ, codes, List, [], ◌∷◌, ◌++◌, replicate, Option, Some, None, pos}
+use Rattle.std.specs.Prelude.{◌≡◌, ℕ, false, codes, List, [], ◌∷◌, ◌++◌, replicate, Option, Some, None, pos}
 use Rattle.pk_values.specs.declared.broken.Break.{Break}
-use Rattle.pk_values.specs.declared.changes.Changes.{Changes}
 use Rattle.pk_values.specs.declared.key.KeyDecl.{KeyDecl}
 use Rattle.pk_values.specs.declared.key.Sort.{Sort}
 use Rattle.pk_values.specs.declared.key.Sort.TheVariants.{Certain, Possible}
@@ -9,7 +8,6 @@ use Rattle.pk_values.specs.declared.kind.Kind.TheVariants as kinds
 use Rattle.pk_values.specs.declared.placed.Placed.{Placed}
 use Rattle.pk_values.specs.declared.value.Value.{Value}
 use Rattle.pk_values.specs.declared.value.Value.TheVariants.{Null, Integer, Text}
-use Rattle.pk_schema.specs.Shapes.{Shape}
 use Rattle.pk_rule.specs.Laws.{key_over}
 use Rattle.pk_guard.specs.Breaks.{first_break}
 use Rattle.pk_guard.specs.Changed.{put_row, changed_rows}

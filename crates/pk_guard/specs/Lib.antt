@@ -4,3 +4,4 @@ pub mod Holds
 pub mod Splits
 pub mod Builds
 pub mod Laws
+pub mod Edges

@@ -1,6 +1,7 @@
 //! What the first break says of keys. A law is a contract; its function does nothing.
 
 ghost use Rattle.pk_guard.specs.Laws.{KeysHoldWhereNothingBreaks, FirstBreaksAreLeast, BreaksShowTwoRows};
+ghost use Rattle.pk_guard.specs.Edges.{BreaksAtTheirEdges, ChangesAtTheirEdges};
 
 /// All keys of a table hold, over all completions of its rows, exactly where nothing breaks.
 pub fn keys_hold_where_nothing_breaks()
@@ -17,4 +18,11 @@ pub fn first_breaks_are_least()
 /// theirs and for a possible key as they are; so the key doesn't hold.
 pub fn breaks_show_two_rows()
     ensures { BreaksShowTwoRows }
+{}
+
+/// What the definitions give at their edges, computed: no row and no column, the last of 32 keys, and
+/// two breaks or two changes of one row at once.
+pub fn definitions_at_their_edges()
+    ensures breaks { BreaksAtTheirEdges }
+    ensures changes { ChangesAtTheirEdges }
 {}

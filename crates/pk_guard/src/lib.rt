@@ -16,7 +16,10 @@ mod laws;
 mod pairs;
 
 pub use guard::{BuildErr, Guard};
-pub use laws::{breaks_show_two_rows, first_breaks_are_least, keys_hold_where_nothing_breaks};
+pub use laws::{
+    breaks_show_two_rows, definitions_at_their_edges, first_breaks_are_least,
+    keys_hold_where_nothing_breaks,
+};
 
 #[cfg(test)]
 mod tests;

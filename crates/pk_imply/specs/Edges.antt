@@ -1,5 +1,5 @@
 -- Questions, rules and covers at their edges, computed. Columns a and b are the sets 1 and 2.
-use Rattle.std.specs.Prelude.{◌≡◌, ℕ, ◌+◌, ◌-◌, ◌^◌, codes, List, [], ◌∷◌, ◌++◌, replicate, Option, Some, None}
+use Rattle.std.specs.Prelude.{◌≡◌, ℕ, ◌+◌, ◌-◌, ◌^◌, false, codes, List, [], ◌∷◌, ◌++◌, replicate, Option, Some, None}
 use Rattle.pk_values.specs.declared.key.KeyDecl.{KeyDecl}
 use Rattle.pk_values.specs.declared.key.Sort.TheVariants.{Certain, Possible}
 use Rattle.pk_values.specs.declared.kind.Kind.TheVariants.{Integer}

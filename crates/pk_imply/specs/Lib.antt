@@ -4,3 +4,4 @@ pub mod Candidates
 pub mod Asking
 pub mod Laws
 pub mod Examples
+pub mod Edges

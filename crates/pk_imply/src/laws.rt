@@ -2,6 +2,7 @@
 
 ghost use Rattle.pk_imply.specs.Laws.{RulesLeadToTheKey, DerivationsAreSound, OneListIsTheCover, TheCoverIsComputed, TheRuleTellsTheCover, CoverImpliesTheSame, CoverImpliesTheSameByRule, CoverHasNoneToSpare, CoverHasNoneToSpareByRule, CoverIsInEachEqual, CoverIsInEachEqualByRule};
 ghost use Rattle.pk_imply.specs.Examples.{ExamplesAreComputed};
+ghost use Rattle.pk_imply.specs.Edges.{QuestionsAtTheirEdges, RulesAtTheirEdges, CoversAtTheirEdges};
 
 /// The rules that `derive` tells are the declaration of a key, and lead from it to the key asked for.
 pub fn rules_lead_to_the_key()
@@ -50,4 +51,12 @@ pub fn the_cover_is_in_each_equal()
 /// What keys over three columns imply, by which rules, and what covers them.
 pub fn examples_are_computed()
     ensures { ExamplesAreComputed }
+{}
+
+/// What the definitions give at their edges, computed: no column and all of 32, no key, one that stands
+/// twice and the last of 32, and two causes at once.
+pub fn definitions_at_their_edges()
+    ensures questions { QuestionsAtTheirEdges }
+    ensures rules { RulesAtTheirEdges }
+    ensures covers { CoversAtTheirEdges }
 {}

@@ -32,9 +32,10 @@ pub use covering::cover;
 pub use derivation::derive;
 pub use implying::implies;
 pub use laws::{
-    derivations_are_sound, examples_are_computed, one_list_is_the_cover, rules_lead_to_the_key,
-    the_cover_has_none_to_spare, the_cover_implies_the_same, the_cover_is_computed,
-    the_cover_is_in_each_equal, the_rule_tells_the_cover,
+    definitions_at_their_edges, derivations_are_sound, examples_are_computed,
+    one_list_is_the_cover, rules_lead_to_the_key, the_cover_has_none_to_spare,
+    the_cover_implies_the_same, the_cover_is_computed, the_cover_is_in_each_equal,
+    the_rule_tells_the_cover,
 };
 
 #[cfg(test)]

@@ -118,12 +118,13 @@ pub record RunsAtTheirEdges : Type 0 where
   pub listed : Tells (codes "CREATE TABLE t (a INT, s VARCHAR(3)); INSERT INTO t (s) VALUES ('a''b'); INSERT INTO t (s) VALUES ('abcd'); SELECT * FROM t") (codes "created t" ∷ codes "inserted 1" ∷ codes "refused: text of 4 bytes for column s, at most 3" ∷ codes "a|s" ∷ codes "NULL|'a''b'" ∷ codes "rows 1" ∷ [])
   pub unfinished : Tells (codes "SELECT * FROM t" ++ 10 ∷ codes ";" ++ 10 ∷ codes "SELECT *") (codes "refused: no table t" ∷ codes "refused: not a statement on line 3" ∷ [])
 
--- edits: tuples that tie, every row set, no row left, no table left, a name one byte too long
+-- edits: tuples that tie, every row set, no row left, no table left, ids from 1 on again, a name one byte too long
 pub record EditsAtTheirEdges : Type 0 where
   pub ordered : Tells (codes "CREATE TABLE t (a INT, b INT); INSERT INTO t VALUES (2, 1), (1, 2), (2, 3), (NULL, 4); SELECT b FROM t ORDER BY a DESC") (codes "created t" ∷ codes "inserted 4" ∷ codes "b" ∷ codes "1" ∷ codes "3" ∷ codes "2" ∷ codes "4" ∷ codes "rows 4" ∷ [])
   pub set : Tells (codes "CREATE TABLE t (a INT, b INT); INSERT INTO t VALUES (1, 1), (2, 2); UPDATE t SET b = NULL; SELECT * FROM t") (codes "created t" ∷ codes "inserted 2" ∷ codes "updated 2" ∷ codes "a|b" ∷ codes "1|NULL" ∷ codes "2|NULL" ∷ codes "rows 2" ∷ [])
   pub emptied : Tells (codes "CREATE TABLE t (a INT); INSERT INTO t VALUES (1), (2); DELETE FROM t; DELETE FROM t; INSERT INTO t VALUES (3); SELECT COUNT(*) FROM t") (codes "created t" ∷ codes "inserted 2" ∷ codes "deleted 2" ∷ codes "deleted 0" ∷ codes "inserted 1" ∷ codes "count" ∷ codes "1" ∷ codes "rows 1" ∷ [])
   pub dropped : Tells (codes "CREATE TABLE t (a INT); DROP TABLE t; SELECT * FROM t") (codes "created t" ∷ codes "dropped t" ∷ codes "refused: no table t" ∷ [])
+  pub made_again : Tells (codes "CREATE TABLE t (a INT, CERTAIN KEY ()); INSERT INTO t VALUES (1); DROP TABLE t; CREATE TABLE t (b INT, CERTAIN KEY ()); INSERT INTO t VALUES (1); INSERT INTO t VALUES (2)") (codes "created t" ∷ codes "inserted 1" ∷ codes "dropped t" ∷ codes "created t" ∷ codes "inserted 1" ∷ codes "refused: certain key 1 of t: rows 1 and 2 agree in the completion ()" ∷ [])
   pub long_name : Tells (codes "CREATE TABLE t (a234567890123456789012345678901 INT)") (codes "refused: limit name 30" ∷ [])
 
 -- keys: the least break of two, nulls that agree in a completion and not as they are, no column, a row that is set to what it has
@@ -135,12 +136,13 @@ pub record KeysAtTheirEdges : Type 0 where
   pub as_they_would_be : Tells (codes "CREATE TABLE t (a INT, CERTAIN KEY (a)); INSERT INTO t VALUES (1); UPDATE t SET a = 1; INSERT INTO t VALUES (1)") (codes "created t" ∷ codes "inserted 1" ∷ codes "updated 1" ∷ codes "refused: certain key 1 of t: rows 1 and 2 agree in the completion (1)" ∷ [])
   pub shown : Tells (codes "CREATE TABLE t (a INT PRIMARY KEY, b VARCHAR(9), UNIQUE (b, a)); SHOW CREATE TABLE t") (codes "created t" ∷ codes "CREATE TABLE t (a INTEGER NOT NULL, b VARCHAR(9), CERTAIN KEY (a), POSSIBLE KEY (a, b));" ∷ [])
 
--- what keys imply: by rules, or refuted by two rows; the empty key, and keys that say the same
+-- what keys imply: by rules, or refuted by two rows; the empty key, no key, and keys that say the same
 pub record ReasoningAtItsEdges : Type 0 where
   pub implied : Tells (codes "CREATE TABLE t (a INT NOT NULL, b INT, POSSIBLE KEY (a)); IMPLIES t CERTAIN KEY (a, b)") (codes "created t" ∷ codes "implied by key 1 by strengthening, extension" ∷ [])
   pub refuted : Tells (codes "CREATE TABLE t (a INT, b TEXT, POSSIBLE KEY (a)); IMPLIES t CERTAIN KEY (a)") (codes "created t" ∷ codes "not implied: rows (NULL, '') and (NULL, 'a')" ∷ [])
   pub empty_key : Tells (codes "CREATE TABLE t (a INT); IMPLIES t POSSIBLE KEY ()") (codes "created t" ∷ codes "not implied: rows (0) and (1)" ∷ [])
   pub refused : Tells (codes "CREATE TABLE t (a INT); IMPLIES t CERTAIN KEY (a, b, a)") (codes "created t" ∷ codes "refused: no column b in t" ∷ [])
+  pub no_keys : Tells (codes "CREATE TABLE t (a INT); COVER OF t") (codes "created t" ∷ codes "keys 0" ∷ [])
   pub cover : Tells (codes "CREATE TABLE t (a INT, b INT, UNIQUE (a), CERTAIN KEY (a), UNIQUE (a, b)); COVER OF t") (codes "created t" ∷ codes "CERTAIN KEY (a)" ∷ codes "keys 1" ∷ [])
 
 -- the definitions at their edges

@@ -2,6 +2,9 @@
 //!
 //! Its clauses speak of `told`, the bytes that a machine of plain lists tells for a script, which
 //! `specs/Told.antt` defines over the definitions of the crates below.
+//!
+//! Contracts see a `Status` as plain data, a source and a station by the ghost members of their traits,
+//! and what each status says of them in `specs/Run.antt`.
 #![tactic(auto)]
 
 mod laws;

@@ -35,6 +35,7 @@ returns-clause-changes c = record {
   all_gone = refl;
   in_its_place = refl;
   at_the_end = refl;
+  gone_before_put = refl;
   gone_ids_stay_free = refl;
   no_entry = refl;
   all_kept = refl;

@@ -60,7 +60,7 @@ returns c = record {
   words = record { none = refl; form = refl; twice = refl; case = refl };
   refusals = record { nowhere = refl; first = refl; middle = refl; last = refl; empty = refl };
   runs = record { empty = refl; blank = refl; no_table_first = refl; exists = refl; counted = refl; zero = refl; fault_on_a_later_line = refl; unserved_first = refl; twice_named = refl; past_64_bits = refl; ordered = refl; unclosed = refl; listed = refl; unfinished = refl };
-  edits = record { ordered = refl; set = refl; emptied = refl; dropped = refl; long_name = refl };
+  edits = record { ordered = refl; set = refl; emptied = refl; dropped = refl; made_again = refl; long_name = refl };
   keys = record { certain = refl; possible = refl; empty = refl; two_at_once = refl; as_they_would_be = refl; shown = refl };
-  reasoning = record { implied = refl; refuted = refl; empty_key = refl; refused = refl; cover = refl };
+  reasoning = record { implied = refl; refuted = refl; empty_key = refl; refused = refl; no_keys = refl; cover = refl };
 }
