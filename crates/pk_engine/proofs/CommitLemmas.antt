@@ -157,19 +157,31 @@ first_none None None (Some r) d none = absurd cc
 first_none None (Some r) c d none = absurd cc
 first_none (Some r) b c d none = absurd cc
 
+-- what changes have room for of which nothing is refused
+pub record HasRoom (st : State) (t : Table) (c : Changes) : Type 0 where
+  pub rows : rows_full st (Changed ((t.name, c) ∷ [])) ≡ None
+  pub ids : ids_full t c ≡ None
+  pub commits : commits_full st ≡ None
+  pub keys : key_broken (changed_by c t) ≡ None
+
+pub has_room : (st : State) (t : Table) (c : Changes) → first_some (change_refusals st t c) ≡ None → HasRoom st t c
+has_room st t c free =
+    let each = first_none (rows_full st (Changed ((t.name, c) ∷ []))) (ids_full t c) (commits_full st) (key_broken (changed_by c t)) free in
+    record { rows = each.0; ids = each.1; commits = each.2; keys = each.3 }
+
 -- an engine that has changed the table at the place stands for the state with that commit
 pub changes_stand : (e n : Engine) (st : State) (place : ℕ) (t : Table) (c : Changes) (rows : ℕ) → StandsFor e st → slice_get e.tables.items place ≡ Some t → IsValidTable t → AreOf t c
     → first_some (change_refusals st t c) ≡ None → rows ≡ min (row_count (committed (current st) (Changed ((t.name, c) ∷ [])))) (2 ^ 64 - 1)
     → n.commit ≡ e.commit + 1 → n.tables.items ≡ set e.tables.items place (changed_by c t) → n.rows ≡ rows
     → StandsFor n (with_commit st (Changed ((t.name, c) ∷ [])))
 changes_stand e n st place t c rows stands is good of none sum commit tables count =
-    let free = first_none (rows_full st (Changed ((t.name, c) ∷ []))) (ids_full t c) (commits_full st) (key_broken (changed_by c t)) none in
-    let most = rows_within st t c free.0 in
+    let room = has_room st t c none in
+    let most = rows_within st t c room.rows in
     let there = ap (table_named t.name) (stands_tables e st stands) ∙ named_at t.name e.tables.items place t (found_at e st place t stands is) (sym (get_or_from_slice_get e.tables.items place t t is)) in
     commit_stands e n st (Changed ((t.name, c) ∷ [])) stands commit
     (tables ∙ sym (tables_changed e st place t c stands is))
     (count ∙ omega (arith, sum, most))
-    (changed_is_valid (current st) t c (stands_valid e st stands) there good of (ids_within t c free.1) most (commits_within st free.2) free.3)
+    (changed_is_valid (current st) t c (stands_valid e st stands) there good of (ids_within t c room.ids) most (commits_within st room.commits) room.keys)
 
 -- ---- what changes are refused for
 

@@ -21,11 +21,10 @@ use Rattle.pk_schema.proofs.ShapeLemmas.{made_shape}
 use Rattle.pk_exec.specs.Entries.{Entry}
 use Rattle.pk_exec.specs.Refusals.{work_insert_refusals, work_update_refusals, work_delete_refusals}
 use Rattle.pk_bind.specs.Select.{select_refusals}
-use Rattle.pk_engine.specs.Base.{Table, is_named, table_named, changed_by}
+use Rattle.pk_engine.specs.Base.{Table, is_named, table_named}
 use Rattle.pk_engine.specs.State.{State, Changed, Made, Dropped, current, with_commit}
 use Rattle.pk_engine.specs.Refusing.{Step, refused_or, decided, about, about_found, table_of}
-use Rattle.pk_engine.specs.Keys.{key_broken}
-use Rattle.pk_engine.specs.Limits.{rows_full, ids_full, tables_full, commits_full}
+use Rattle.pk_engine.specs.Limits.{tables_full, commits_full}
 use Rattle.pk_engine.specs.Create.{create_refusals, created, if_found, table_exists}
 use Rattle.pk_engine.specs.Drop.{table_large, drop_refusals, dropped}
 use Rattle.pk_engine.specs.Edits.{changes_in, is_unchanged, change_refusals, commit_refusals, with_changes, entries_in, insert_entries, insert_refusals, inserted, update_entries, update_refusals, updated_rows, delete_refusals, deleted_rows, delete_entries}
@@ -34,6 +33,7 @@ use Rattle.pk_engine.specs.Select.{selected_rows}
 use Rattle.pk_engine.specs.Valid.{IsValid, IsValidTable, names_are_names}
 use Rattle.pk_engine.specs.Reasoning.{implies_refusals, implied_told}
 use Rattle.pk_engine.specs.Answer.{answer}
+use Rattle.pk_engine.proofs.CommitLemmas.{has_room}
 use Rattle.pk_engine.proofs.EditLemmas.{insert_of, update_of, delete_of}
 use Rattle.pk_engine.proofs.LimitLemmas.{rows_within, ids_within, commits_within, tables_within}
 use Rattle.pk_engine.proofs.StandsLemmas.{current_more}
@@ -136,12 +136,9 @@ changed_valid st t c valid good there of free = go (is_unchanged c) free
     go : (b : Bool) → first_some (if b then [] else change_refusals st t c) ≡ None → IsValid (current (if b then st else with_commit st (Changed ((t.name, c) ∷ []))))
     go true free = valid
     go false free =
-        let x = head_free (rows_full st (Changed ((t.name, c) ∷ []))) _ free in
-        let y = head_free (ids_full t c) _ x.1 in
-        let z = head_free (commits_full st) _ y.1 in
-        let keys = head_free (key_broken (changed_by c t)) [] z.1 in
+        let room = has_room st t c free in
         subst IsValid (sym (current_more st (Changed ((t.name, c) ∷ []))))
-        (changed_is_valid (current st) t c valid there good of (ids_within t c y.0) (rows_within st t c x.0) (commits_within st z.0) keys.0)
+        (changed_is_valid (current st) t c valid there good of (ids_within t c room.ids) (rows_within st t c room.rows) (commits_within st room.commits) room.keys)
 
 edit_valid : (st : State) (name : List ℕ) (t : Table) (rs : List (Option Refusal)) (es : List Entry) → IsValid (current st) → table_of st name ≡ Some t
     → (IsValidTable t → first_some rs ≡ None → AreOf t (changes_in t es)) → first_some (rs ++ commit_refusals st t (changes_in t es)) ≡ None
