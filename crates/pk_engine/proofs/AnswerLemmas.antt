@@ -24,6 +24,16 @@ first_behind [] ys free = refl
 first_behind (Some x ∷ xs) ys free = absurd cc
 first_behind (None ∷ xs) ys free = first_behind xs ys free
 
+-- where none of a list stands, none of its parts does
+pub front_free : (xs ys : List (Option Refusal)) → first_some (xs ++ ys) ≡ None → (first_some xs ≡ None) × (first_some ys ≡ None)
+front_free [] ys free = (refl, free)
+front_free (Some r ∷ xs) ys free = absurd cc
+front_free (None ∷ xs) ys free = front_free xs ys free
+
+pub head_free : (o : Option Refusal) (rs : List (Option Refusal)) → first_some (o ∷ rs) ≡ None → (o ≡ None) × (first_some rs ≡ None)
+head_free None rs free = (refl, free)
+head_free (Some r) rs free = absurd cc
+
 -- a refusal of the first ones is the answer, whatever stands behind them
 pub decided_front : (st : State) (xs ys : List (Option Refusal)) (done : Step) (r : Refusal) → first_some xs ≡ Some r → decided st (xs ++ ys) done ≡ refused st r
 decided_front st xs ys done r stands = decided_refused st (xs ++ ys) done r (first_of_front xs ys r stands)

@@ -35,7 +35,7 @@ use Rattle.pk_engine.proofs.TableLemmas.{change_place, without_place, with_table
 use Rattle.pk_engine.proofs.EntryLemmas.{entries_committed, entries_counted, length-placed, put_counted, added_few, gone_ascend}
 use Rattle.pk_engine.proofs.LimitLemmas.{rows_within, ids_within, commits_within}
 use Rattle.pk_engine.proofs.StandsLemmas.{table_at, table_absent, place_within, stands_table, stands_tables, stands_order, stands_rows, stands_valid, stands_commit, commit_stands}
-use Rattle.pk_engine.proofs.AnswerLemmas.{first_behind, second_refused, both_free}
+use Rattle.pk_engine.proofs.AnswerLemmas.{first_behind, second_refused, both_free, head_free}
 use Rattle.pk_engine.proofs.ValidLemmas.{changed_is_valid, made_is_valid, dropped_is_valid, rows_with_table}
 
 -- how many rows are new
@@ -150,13 +150,6 @@ ids_free st t c count le = rw (under most_ids (changed_by c t).next (let next = 
 
 -- ---- the commit
 
-first_none : (a b c d : Option Refusal) → first_some (a ∷ b ∷ c ∷ d ∷ []) ≡ None → (a ≡ None) × (b ≡ None) × (c ≡ None) × (d ≡ None)
-first_none None None None None none = (refl, refl, refl, refl)
-first_none None None None (Some r) none = absurd cc
-first_none None None (Some r) d none = absurd cc
-first_none None (Some r) c d none = absurd cc
-first_none (Some r) b c d none = absurd cc
-
 -- what changes have room for of which nothing is refused
 pub record HasRoom (st : State) (t : Table) (c : Changes) : Type 0 where
   pub rows : rows_full st (Changed ((t.name, c) ∷ [])) ≡ None
@@ -166,8 +159,11 @@ pub record HasRoom (st : State) (t : Table) (c : Changes) : Type 0 where
 
 pub has_room : (st : State) (t : Table) (c : Changes) → first_some (change_refusals st t c) ≡ None → HasRoom st t c
 has_room st t c free =
-    let each = first_none (rows_full st (Changed ((t.name, c) ∷ []))) (ids_full t c) (commits_full st) (key_broken (changed_by c t)) free in
-    record { rows = each.0; ids = each.1; commits = each.2; keys = each.3 }
+    let rows = head_free (rows_full st (Changed ((t.name, c) ∷ []))) _ free in
+    let ids = head_free (ids_full t c) _ rows.1 in
+    let commits = head_free (commits_full st) _ ids.1 in
+    let keys = head_free (key_broken (changed_by c t)) [] commits.1 in
+    record { rows = rows.0; ids = ids.0; commits = commits.0; keys = keys.0 }
 
 -- an engine that has changed the table at the place stands for the state with that commit
 pub changes_stand : (e n : Engine) (st : State) (place : ℕ) (t : Table) (c : Changes) (rows : ℕ) → StandsFor e st → slice_get e.tables.items place ≡ Some t → IsValidTable t → AreOf t c

@@ -35,19 +35,8 @@ use Rattle.pk_engine.specs.Entries.{AreOf}
 use Rattle.pk_engine.specs.Refusing.{decided}
 use Rattle.pk_engine.specs.State.{State}
 use Rattle.pk_engine.specs.Valid.{IsValidTable}
-use Rattle.pk_engine.proofs.AnswerLemmas.{decided_behind}
+use Rattle.pk_engine.proofs.AnswerLemmas.{decided_behind, front_free, head_free}
 use Rattle.pk_engine.proofs.EntryLemmas.{follow_kept, follow_added, follow_reset, follow_chosen}
-
-front_none : (xs ys : List (Option Refusal)) → first_some (xs ++ ys) ≡ None → first_some xs ≡ None
-front_none [] ys free = refl
-front_none (Some r ∷ xs) ys free = absurd cc
-front_none (None ∷ xs) ys free = front_none xs ys free
-
-behind_none : (xs : List (Option Refusal)) (o : Option Refusal) (ys : List (Option Refusal)) → first_some (xs ++ o ∷ ys) ≡ None → o ≡ None
-behind_none [] None ys free = refl
-behind_none [] (Some r) ys free = absurd cc
-behind_none (Some r ∷ xs) o ys free = absurd cc
-behind_none (None ∷ xs) o ys free = behind_none xs o ys free
 
 -- the schema admits the row of each entry
 abbrev AreAdmitted : Shape → List Entry → Type 0
@@ -71,7 +60,7 @@ pub insert_of : (t : Table) (i : Insert) → IsValidTable t → list_all (list_a
     → AreOf t (changes_in t (insert_entries t i))
 insert_of t i valid texts free =
     let rows = new_rows t.shape.columns i in
-    let admitted = new_rows_admitted t.shape i valid.shape texts (front_none (insert_refusals t.shape i) (many_changes (0 + length i.rows) ∷ []) free) in (
+    let admitted = new_rows_admitted t.shape i valid.shape texts (front_free (insert_refusals t.shape i) (many_changes (0 + length i.rows) ∷ []) free).0 in (
       insert_entries t i,
       follow_added rows t.rows (entries_in t) (follow_kept t.rows),
       All-from_recursion (λ (e : Entry). Admits t.shape (row_in e)) (insert_entries t i)
@@ -120,8 +109,9 @@ pub update_of : (t : Table) (u : Update) → IsValidTable t → (list_all (λ (p
 unfolding long_update
 update_of t u valid texts free =
     let e = edit_of t.shape.columns u in
-    let fits = edited_fits t.shape u texts (front_none (update_refusals t.shape u) _ free) in
-    let short = behind_none (update_refusals t.shape u) (long_update e (entries_in t)) _ free in (
+    let parts = front_free (update_refusals t.shape u) _ free in
+    let fits = edited_fits t.shape u texts parts.0 in
+    let short = (head_free (long_update e (entries_in t)) _ parts.1).0 in (
       update_entries t u,
       follow_reset (λ x. takes e.cond (row_in x)) (λ x. with_sets e.sets (row_in x)) t.rows (entries_in t) (follow_kept t.rows),
       All-from_recursion (λ (x : Entry). Admits t.shape (row_in x)) (update_entries t u) (updated_admitted t.shape e (entries_in t) fits (seen_admitted t valid) short),

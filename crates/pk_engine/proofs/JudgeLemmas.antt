@@ -25,9 +25,9 @@ use Rattle.pk_engine.specs.Entries.{AreOf}
 use Rattle.pk_engine.specs.Valid.{IsValid, IsValidTable}
 use Rattle.pk_engine.specs.Answer.{answer}
 use Rattle.pk_engine.specs.KeyLaws.{ShowsBreak, judged_before, IsJudged, AreJudged, KeysAreJudgedByCompletions}
-use Rattle.pk_engine.proofs.AnswerLemmas.{decided_refused, decided_done, decided_front, decided_behind, first_of_front}
+use Rattle.pk_engine.proofs.AnswerLemmas.{decided_refused, decided_done, decided_front, decided_behind, first_of_front, front_free}
 use Rattle.pk_engine.proofs.EditLemmas.{insert_of, update_of, delete_of}
-use Rattle.pk_engine.proofs.KeptLemmas.{found_valid, front_free}
+use Rattle.pk_engine.proofs.KeptLemmas.{found_valid}
 use Rattle.pk_engine.proofs.KeyLemmas.{unbroken_hold, held_unbroken}
 use Rattle.pk_engine.proofs.MadeLemmas.{unchanged_by}
 use Rattle.pk_engine.proofs.RowLemmas.{changed_is_same}

@@ -33,6 +33,7 @@ use Rattle.pk_engine.specs.Select.{selected_rows}
 use Rattle.pk_engine.specs.Valid.{IsValid, IsValidTable, names_are_names}
 use Rattle.pk_engine.specs.Reasoning.{implies_refusals, implied_told}
 use Rattle.pk_engine.specs.Answer.{answer}
+use Rattle.pk_engine.proofs.AnswerLemmas.{front_free, head_free}
 use Rattle.pk_engine.proofs.CommitLemmas.{has_room}
 use Rattle.pk_engine.proofs.EditLemmas.{insert_of, update_of, delete_of}
 use Rattle.pk_engine.proofs.LimitLemmas.{rows_within, ids_within, commits_within, tables_within}
@@ -82,17 +83,6 @@ found_name st name t found = (found_is (λ u. Unit {0}) name (current st).tables
 -- it has its name
 pub found_named : (st : State) (name : List ℕ) (t : Table) → table_of st name ≡ Some t → table_of st t.name ≡ Some t
 found_named st name t found = ap (table_of st) (found_name st name t found) ∙ found
-
--- ---- lists of refusals
-
-pub front_free : (xs ys : List (Option Refusal)) → first_some (xs ++ ys) ≡ None → (first_some xs ≡ None) × (first_some ys ≡ None)
-front_free [] ys free = (refl, free)
-front_free (Some r ∷ xs) ys free = absurd cc
-front_free (None ∷ xs) ys free = front_free xs ys free
-
-pub head_free : (o : Option Refusal) (rs : List (Option Refusal)) → first_some (o ∷ rs) ≡ None → (o ≡ None) × (first_some rs ≡ None)
-head_free None rs free = (refl, free)
-head_free (Some r) rs free = absurd cc
 
 -- ---- CREATE TABLE
 

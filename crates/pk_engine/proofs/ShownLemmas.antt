@@ -46,7 +46,8 @@ use Rattle.pk_engine.specs.Refusing.{Step, about, about_found, decided, refused_
 use Rattle.pk_engine.specs.Select.{told_as, found, selected_rows}
 use Rattle.pk_engine.specs.Answer.{answer}
 use Rattle.pk_engine.specs.Laws.{rows_met, order_asked, values_under, SelectsTellTheirRows, WholeRowsAreTold, RowsArePutInOrder, CountsAreOfTheRowsShown}
-use Rattle.pk_engine.proofs.KeptLemmas.{head_free, found_valid}
+use Rattle.pk_engine.proofs.AnswerLemmas.{head_free}
+use Rattle.pk_engine.proofs.KeptLemmas.{found_valid}
 use Rattle.pk_engine.proofs.OtherLemmas.{about_says}
 
 -- ---- how two rows stand is a total order
