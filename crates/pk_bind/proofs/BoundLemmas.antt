@@ -1,16 +1,12 @@
 -- What is bound behind refusals that don't stand.
-use Rattle.std.proofs.Common.{◌≡◌, refl, sym, ◌∙◌, subst, List, [], ◌∷◌, ◌++◌, Option, Some, None, IfOk, Ok, Err}
+use Rattle.std.proofs.Common.{◌≡◌, sym, ◌∙◌, subst, List, ◌++◌, Option, None, IfOk, Ok, Err}
 use Rattle.std.specs.Prelude.{Result}
 use Rattle.pk_values.specs.declared.refusal.Refusal.{Refusal}
 use Rattle.pk_values.specs.Refusals.{first_some}
 use Rattle.pk_bind.specs.declared.bound.Bound.{Bound}
 use Rattle.pk_bind.specs.declared.bound.Bound.TheVariants.{Ready, Refused}
 use Rattle.pk_bind.specs.Bound.{IsBound, IfReady}
-
-first_behind : (front back : List (Option Refusal)) → first_some front ≡ None → first_some (front ++ back) ≡ first_some back
-first_behind [] back free = refl
-first_behind (None ∷ rs) back free = first_behind rs back free
-first_behind (Some r ∷ rs) back free = absurd cc
+use Rattle.pk_values.proofs.RefusalLemmas.{first_behind}
 
 bound_behind : {A : Type 0} (front back : List (Option Refusal)) (meaning : A) (b : Bound A) → first_some front ≡ None
     → IsBound back meaning b → IsBound (front ++ back) meaning b

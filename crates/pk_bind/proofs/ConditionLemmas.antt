@@ -25,14 +25,15 @@ use Rattle.pk_logic.specs.declared.condition.Cond.TheFolds.{fold-roll-Cond}
 use Rattle.pk_logic.specs.Conditions.{all_hold}
 use Rattle.pk_logic.specs.Kinds.{kind_at, is_of_kind, side_is_of_kind, compares_one_kind, is_column, over_kinds_step, is_over_kinds}
 use Rattle.pk_schema.specs.Shapes.{column_named, kinds_of}
-use Rattle.pk_bind.specs.declared.conditions.Search.{Search}
-use Rattle.pk_bind.specs.declared.conditions.Search.TheVariants.{Missing, Kind as OfKind}
+use Rattle.pk_bind.specs.declared.searching.Search.{Search}
+use Rattle.pk_bind.specs.declared.searching.Search.TheVariants.{Missing, Kind as OfKind}
 use Rattle.pk_bind.specs.Columns.{no_column, column_at}
 use Rattle.pk_bind.specs.Literals.{unless_kind}
 use Rattle.pk_bind.specs.Conditions.{missing_in, unless_same_kind, kind_beside, kind_in, fault_step, test_fault, cond_fault, side_of, op_of, cond_step, cond_of, cond_asked}
 use Rattle.pk_bind.specs.Fitting.{cond_fits}
-use Rattle.pk_bind.proofs.FoundLemmas.{neither, none_of, column_found, kind_of_place}
+use Rattle.pk_bind.proofs.FoundLemmas.{column_found, kind_of_place}
 use Rattle.pk_bind.proofs.LiteralLemmas.{stored_fits}
+use Rattle.pk_values.proofs.RefusalLemmas.{neither, head_free}
 
 -- ---- layers
 
@@ -122,8 +123,8 @@ all_fit : (columns : List ColumnDecl) (table : List ℕ) (parts : List (Part col
 all_fit columns table [] utf8 there free = refl
 all_fit columns table (p ∷ ps) utf8 there free =
     let texts = and_parts (test_has_utf8 p.0) (list_all (λ m. m) (map test_has_utf8 (tests columns table ps))) utf8 in
-    let names = none_of (test_fault Missing columns table p.0) (map (test_fault Missing columns table) (tests columns table ps)) there in
-    let same = none_of (test_fault OfKind columns table p.0) (map (test_fault OfKind columns table) (tests columns table ps)) free in
+    let names = head_free (test_fault Missing columns table p.0) (map (test_fault Missing columns table) (tests columns table ps)) there in
+    let same = head_free (test_fault OfKind columns table p.0) (map (test_fault OfKind columns table) (tests columns table ps)) free in
     and_from (is_over_kinds (kinds_of columns) (cond_of columns p.0)) _ (p.1 texts.0 names.0 same.0) (all_fit columns table ps texts.1 names.1 same.1)
 
 layer_fits : (columns : List ColumnDecl) (table : List ℕ) (y : Test-F (Part columns table))

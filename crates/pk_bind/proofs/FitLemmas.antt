@@ -16,7 +16,7 @@ use Rattle.pk_parse.specs.Given.{has_utf8, cond_has_utf8}
 use Rattle.pk_schema.specs.Shapes.{Shape}
 use Rattle.pk_bind.specs.declared.literals.Check.{Check}
 use Rattle.pk_bind.specs.declared.literals.Check.TheVariants as checks
-use Rattle.pk_bind.specs.declared.conditions.Search.TheVariants as searches
+use Rattle.pk_bind.specs.declared.searching.Search.TheVariants as searches
 use Rattle.pk_bind.specs.Columns.{no_column, column_at}
 use Rattle.pk_bind.specs.Literals.{stored_value}
 use Rattle.pk_bind.specs.Conditions.{cond_fault, cond_asked}
@@ -24,9 +24,10 @@ use Rattle.pk_bind.specs.Update.{found_fault, set_fault, update_refusals, set_of
 use Rattle.pk_bind.specs.Delete.{delete_refusals}
 use Rattle.pk_bind.specs.Select.{missing_shown, missing_order, select_refusals, shown_of, order_of, selection_of}
 use Rattle.pk_bind.specs.Fitting.{cond_fits, holds_at, set_fits, edit_fits, shown_fits, order_fits, selection_fits}
-use Rattle.pk_bind.proofs.FoundLemmas.{neither, none_stand, column_found}
+use Rattle.pk_bind.proofs.FoundLemmas.{none_stand, column_found}
 use Rattle.pk_bind.proofs.LiteralLemmas.{by_check, stored_holds}
 use Rattle.pk_bind.proofs.ConditionLemmas.{cond_bound_fits}
+use Rattle.pk_values.proofs.RefusalLemmas.{neither}
 
 -- ---- places
 

@@ -6,21 +6,12 @@ use Rattle.std.proofs.lemmas.Bool.{lt-ltb}
 use Rattle.std.proofs.lemmas.List.Folds.{find_at}
 use Rattle.std.proofs.lemmas.Option.{slice_get_within}
 use Rattle.pk_values.specs.declared.refusal.Refusal.{Refusal}
-use Rattle.pk_values.specs.Refusals.{first_some, or_else}
+use Rattle.pk_values.specs.Refusals.{first_some}
 use Rattle.pk_parse.specs.declared.declaration.ColumnDecl.{ColumnDecl}
 use Rattle.pk_logic.specs.Kinds.{kind_at}
 use Rattle.pk_schema.specs.Shapes.{is_column, place_of_column, column_named, kinds_of}
 use Rattle.pk_bind.specs.Columns.{unless_found, no_column, column_at}
-
--- neither stands
-pub neither : (a b : Option Refusal) → or_else a b ≡ None → (a ≡ None) × (b ≡ None)
-neither None b free = (refl, free)
-neither (Some r) b free = absurd cc
-
--- the first doesn't stand, nor any behind it
-pub none_of : (r : Option Refusal) (rs : List (Option Refusal)) → first_some (r ∷ rs) ≡ None → (r ≡ None) × (first_some rs ≡ None)
-none_of None rs free = (refl, free)
-none_of (Some r) rs free = absurd cc
+use Rattle.pk_values.proofs.RefusalLemmas.{head_free}
 
 -- none of them stands
 abbrev pub NoneStand : List (Option Refusal) → Type 0
@@ -29,7 +20,7 @@ NoneStand (r ∷ rs) = (r ≡ None) × NoneStand rs
 
 pub none_stand : (rs : List (Option Refusal)) → first_some rs ≡ None → NoneStand rs
 none_stand [] free = tt
-none_stand (r ∷ rs) free = let parts = none_of r rs free in (parts.0, none_stand rs parts.1)
+none_stand (r ∷ rs) free = let parts = head_free r rs free in (parts.0, none_stand rs parts.1)
 
 -- what is found stands at the place that is found
 pub found : {X : Type 0} (p : X → Bool) (xs : List X) (x : X) → find p xs ≡ Some x

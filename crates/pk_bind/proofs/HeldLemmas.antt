@@ -1,9 +1,8 @@
 -- A row is admitted where each column may hold its value and it isn't too long, and only there.
-use Rattle.std.proofs.Common.{◌≡◌, refl, sym, ap, subst, ℕ, suc, ◌+◌, ◌≤◌, Bool, true, false, cond, ◌&&◌, not, List, [], ◌∷◌, length, Option, Some, None, nat_le, nat_lt, arith}
+use Rattle.std.proofs.Common.{◌≡◌, refl, ap, Bool, true, false, cond, ◌&&◌, not, List, [], ◌∷◌, length, Option, Some, None, nat_le}
 use Rattle.std.specs.Prelude.{◌==◌}
-use Rattle.std.specs.List.{list_all, position, prefix_len, zip}
-use Rattle.std.specs.Option.{option_map}
-use Rattle.std.proofs.lemmas.Bool.{and_parts, and_from, ltb-false, le-ltb, eqb-true, eq-eqb}
+use Rattle.std.specs.List.{list_all, zip}
+use Rattle.std.proofs.lemmas.Bool.{and_parts, and_from, eqb-true, eq-eqb}
 use Rattle.pk_values.specs.declared.value.Value.{Value}
 use Rattle.pk_values.specs.Records.{row_record}
 use Rattle.pk_parse.specs.declared.declaration.ColumnDecl.{ColumnDecl}
@@ -12,18 +11,13 @@ use Rattle.pk_schema.specs.declared.admitting.RowFault.TheVariants.{Width, Size}
 use Rattle.pk_schema.specs.Shapes.{Shape}
 use Rattle.pk_schema.specs.Admits.{has_other_kind, is_long, is_missing, first_wrong, width_fault, size_fault, row_fault, Admits}
 use Rattle.pk_bind.specs.Fitting.{may_hold}
+use Rattle.pk_values.proofs.ListLemmas.{all_weaker, no_place, none_passes, map_none}
 
 -- each column may hold its value
 abbrev pub held : List ColumnDecl → List Value → Bool
 held columns row = list_all (λ pair. may_hold pair.0 pair.1) (zip columns row)
 
 -- ---- none is wrong
-
-all_of : {X : Type 0} (p q : X → Bool) → ((x : X) → p x ≡ true → q x ≡ true) → (xs : List X) → list_all p xs ≡ true → list_all q xs ≡ true
-all_of p q so [] all = refl
-all_of p q so (x ∷ xs) all =
-    let parts = and_parts (p x) (list_all p xs) all in
-    and_from (q x) (list_all q xs) (so x parts.0) (all_of p q so xs parts.1)
 
 all_three : {X : Type 0} (p q r : X → Bool) (xs : List X) → list_all p xs ≡ true → list_all q xs ≡ true → list_all r xs ≡ true
     → list_all (λ x. p x && q x && r x) xs ≡ true
@@ -34,34 +28,6 @@ all_three p q r (x ∷ xs) first second third =
     let c = and_parts (r x) (list_all r xs) third in
     and_from (p x && q x && r x) _ (and_from (p x && q x) (r x) (and_from (p x) (q x) a.0 b.0) c.0) (all_three p q r xs a.1 b.1 c.1)
 
-all_pass : {X : Type 0} (p : X → Bool) (xs : List X) → list_all p xs ≡ true → length xs ≤ prefix_len p xs
-all_pass p [] all = omega arith
-all_pass p (x ∷ xs) all =
-    let parts = and_parts (p x) (list_all p xs) all in
-    subst (λ b. length (x ∷ xs) ≤ cond b (1 + prefix_len p xs) 0) (sym parts.0) (omega (arith, all_pass p xs parts.1))
-
-pass_step : (b others : Bool) (n m : ℕ) → (n ≤ m → others ≡ true) → suc n ≤ cond b (1 + m) 0 → (b && others) ≡ true
-pass_step true others n m so far = so (omega (arith, far))
-pass_step false others n m so far = absurd (omega (arith, far))
-
-pass_all : {X : Type 0} (p : X → Bool) (xs : List X) → length xs ≤ prefix_len p xs → list_all p xs ≡ true
-pass_all p [] far = refl
-pass_all p (x ∷ xs) far = pass_step (p x) (list_all p xs) (length xs) (prefix_len p xs) (pass_all p xs) far
-
-no_place : {X : Type 0} (p : X → Bool) (xs : List X) → list_all (λ x. not (p x)) xs ≡ true → position p xs ≡ None
-no_place p xs all =
-    let i = prefix_len (λ x. not (p x)) xs in
-    ap (λ b. cond b (Some i) None) (le-ltb i (length xs) (all_pass (λ x. not (p x)) xs all))
-
-no_some : {X : Type 0} (b : Bool) (x : X) → cond b (Some x) None ≡ None → b ≡ false
-no_some true x free = cc
-no_some false x free = refl
-
-place_none : {X : Type 0} (p : X → Bool) (xs : List X) → position p xs ≡ None → list_all (λ x. not (p x)) xs ≡ true
-place_none p xs free =
-    let i = prefix_len (λ x. not (p x)) xs in
-    pass_all (λ x. not (p x)) xs (ltb-false i (length xs) (no_some (nat_lt i (length xs)) i free))
-
 -- ---- rows
 
 no_wrong : (wrong : ColumnDecl → Value → Bool) → ((c : ColumnDecl) (v : Value) → may_hold c v ≡ true → not (wrong c v) ≡ true)
@@ -69,12 +35,12 @@ no_wrong : (wrong : ColumnDecl → Value → Bool) → ((c : ColumnDecl) (v : Va
 unfolding first_wrong
 no_wrong wrong so columns row all =
     no_place (λ pair. wrong pair.0 pair.1) (zip columns row)
-    (all_of (λ pair. may_hold pair.0 pair.1) (λ pair. not (wrong pair.0 pair.1)) (λ pair. so pair.0 pair.1) (zip columns row) all)
+    (all_weaker (λ pair. may_hold pair.0 pair.1) (λ pair. not (wrong pair.0 pair.1)) (λ pair. so pair.0 pair.1) (zip columns row) all)
 
 none_wrong : (wrong : ColumnDecl → Value → Bool) (columns : List ColumnDecl) (row : List Value) → first_wrong wrong columns row ≡ None
     → list_all (λ pair. not (wrong pair.0 pair.1)) (zip columns row) ≡ true
 unfolding first_wrong
-none_wrong wrong columns row free = place_none (λ pair. wrong pair.0 pair.1) (zip columns row) free
+none_wrong wrong columns row free = none_passes (λ pair. wrong pair.0 pair.1) (zip columns row) free
 
 pub three : (c : ColumnDecl) (v : Value) → may_hold c v ≡ true
     → (not (has_other_kind c v) ≡ true) × (not (is_long c v) ≡ true) × (not (is_missing c v) ≡ true)
@@ -104,10 +70,6 @@ held_admits s row same all small =
 first_none : {A : Type 0} (o : Option A) (os : List (Option A)) → first_of (o ∷ os) ≡ None → (o ≡ None) × (first_of os ≡ None)
 first_none None os free = (refl, free)
 first_none (Some x) os free = absurd cc
-
-pub map_none : {A B : Type 0} (f : A → B) (o : Option A) → option_map f o ≡ None → o ≡ None
-map_none f None free = refl
-map_none f (Some x) free = absurd cc
 
 pub no_other : {X : Type 0} (b : Bool) (x : X) → cond b None (Some x) ≡ None → b ≡ true
 no_other true x free = refl

@@ -22,10 +22,12 @@ use Rattle.pk_bind.specs.declared.literals.Check.TheVariants as checks
 use Rattle.pk_bind.specs.Literals.{stored_fault, stored_value}
 use Rattle.pk_bind.specs.Insert.{targets, miscounted, tuple_fault, is_left_null, null_value, long_row, given, sources, made_row, insert_refusals, new_rows}
 use Rattle.pk_bind.specs.Fitting.{may_hold}
-use Rattle.pk_bind.proofs.FoundLemmas.{neither, none_stand}
+use Rattle.pk_bind.proofs.FoundLemmas.{none_stand}
 use Rattle.pk_bind.proofs.LiteralLemmas.{by_check, null_holds, stored_holds}
-use Rattle.pk_bind.proofs.HeldLemmas.{held, map_none, no_other, held_admits}
+use Rattle.pk_bind.proofs.HeldLemmas.{held, no_other, held_admits}
 use Rattle.pk_bind.proofs.ListedLemmas.{Own, own_columns, own_targets, listed_at}
+use Rattle.pk_values.proofs.RefusalLemmas.{neither}
+use Rattle.pk_values.proofs.ListLemmas.{map_none}
 
 -- ---- one column
 

@@ -11,7 +11,7 @@ use Rattle.pk_parse.specs.declared.condition.Test.TheOpen as layers
 use Rattle.pk_parse.specs.declared.condition.Test.TheFolds.{fold-roll-Test}
 use Rattle.pk_logic.specs.declared.condition.Cond.{Cond}
 use Rattle.pk_logic.specs.declared.condition.Cond.TheVariants as conds
-use Rattle.pk_bind.specs.declared.conditions.Search.{Search}
+use Rattle.pk_bind.specs.declared.searching.Search.{Search}
 use Rattle.pk_bind.specs.Columns.{column_at}
 use Rattle.pk_bind.specs.Conditions.{comparison_fault, null_test_fault, fault_step, test_fault, op_of, side_of, cond_step, cond_of}
 

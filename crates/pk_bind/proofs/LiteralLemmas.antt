@@ -19,6 +19,7 @@ use Rattle.pk_bind.specs.declared.literals.Check.TheVariants as checks
 use Rattle.pk_bind.specs.Literals.{unless_kind, kind_fault, wide_fault, long_fault, null_fault, stored_value}
 use Rattle.pk_bind.specs.Fitting.{may_hold}
 use Rattle.pk_bind.proofs.Utf8Lemmas.{utf8_bytes}
+use Rattle.std.proofs.Math.Bool.{and-false}
 
 -- what each check has, all have
 pub by_check : (P : Check → Type 0) → P checks.Kind → P checks.Wide → P checks.Length → P checks.Null → (check : Check) → P check
@@ -61,10 +62,6 @@ holds c v fits long missing =
 no_text : (c : ColumnDecl) → not (nat_le 0 c.max) ≡ false
 no_text c = ap not (le-leb 0 c.max (omega arith))
 
-known : (b : Bool) → (b && false) ≡ false
-known true = refl
-known false = refl
-
 -- the column may hold null, where it takes null
 pub null_holds : (c : ColumnDecl) → c.not_null ≡ false → may_hold c values.Null ≡ true
 null_holds c takes = holds c values.Null refl (no_text c) (ap (λ b. b && true) takes)
@@ -73,10 +70,10 @@ null_holds c takes = holds c values.Null refl (no_text c) (ap (λ b. b && true) 
 pub stored_holds : (c : ColumnDecl) (l : Literal) → has_utf8 l ≡ true
     → kind_fault c l ≡ None → wide_fault l ≡ None → long_fault c.name c.max l ≡ None → null_fault c l ≡ None → may_hold c (stored_value l) ≡ true
 stored_holds c Null utf8 kind wide long null = null_holds c (nullable c.not_null _ null)
-stored_holds c (Number z) utf8 kind wide long null = holds c (values.Integer z) (stored_fits c (Number z) utf8 kind) (no_text c) (known c.not_null)
+stored_holds c (Number z) utf8 kind wide long null = holds c (values.Integer z) (stored_fits c (Number z) utf8 kind) (no_text c) (and-false c.not_null)
 stored_holds c Wide utf8 kind wide long null = absurd cc
 stored_holds c (Text bytes) utf8 kind wide long null =
-    holds c (values.Text bytes) (stored_fits c (Text bytes) utf8 kind) (ap not (short (nat_le (length bytes) c.max) _ long)) (known c.not_null)
+    holds c (values.Text bytes) (stored_fits c (Text bytes) utf8 kind) (ap not (short (nat_le (length bytes) c.max) _ long)) (and-false c.not_null)
 
 -- words are UTF-8
 pub words_are_utf8 : (bytes : List ℕ) → IsTrue (is_words bytes) → IsTrue (is_utf8 bytes)

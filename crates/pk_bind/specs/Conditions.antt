@@ -18,8 +18,8 @@ use Rattle.pk_logic.specs.declared.condition.Side.TheVariants as sides
 use Rattle.pk_logic.specs.declared.condition.Cond.{Cond}
 use Rattle.pk_logic.specs.declared.condition.Cond.TheVariants as conds
 use Rattle.pk_schema.specs.Shapes.{column_named}
-use Rattle.pk_bind.specs.declared.conditions.Search.{Search}
-use Rattle.pk_bind.specs.declared.conditions.Search.TheVariants as searches
+use Rattle.pk_bind.specs.declared.searching.Search.{Search}
+use Rattle.pk_bind.specs.declared.searching.Search.TheVariants as searches
 use Rattle.pk_bind.specs.Columns.{no_column, column_at}
 use Rattle.pk_bind.specs.Literals.{unless_kind, kind_fault, wide_fault, long_fault, stored_value}
 

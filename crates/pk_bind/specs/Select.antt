@@ -13,7 +13,7 @@ use Rattle.pk_bind.specs.declared.selection.OrderBy.{OrderBy}
 use Rattle.pk_bind.specs.declared.selection.Selection.{Selection}
 use Rattle.pk_bind.specs.declared.selection.Shown.{Shown}
 use Rattle.pk_bind.specs.declared.selection.Shown.TheVariants as showing
-use Rattle.pk_bind.specs.declared.conditions.Search.TheVariants as searches
+use Rattle.pk_bind.specs.declared.searching.Search.TheVariants as searches
 use Rattle.pk_bind.specs.Columns.{no_column, column_at}
 use Rattle.pk_bind.specs.Conditions.{cond_fault, cond_asked}
 

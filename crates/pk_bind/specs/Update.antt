@@ -14,8 +14,8 @@ use Rattle.pk_bind.specs.declared.edit.Edit.{Edit}
 use Rattle.pk_bind.specs.declared.edit.SetTo.{SetTo}
 use Rattle.pk_bind.specs.declared.literals.Check.{Check}
 use Rattle.pk_bind.specs.declared.literals.Check.TheVariants as checks
-use Rattle.pk_bind.specs.declared.conditions.Search.{Search}
-use Rattle.pk_bind.specs.declared.conditions.Search.TheVariants as searches
+use Rattle.pk_bind.specs.declared.searching.Search.{Search}
+use Rattle.pk_bind.specs.declared.searching.Search.TheVariants as searches
 use Rattle.pk_bind.specs.Columns.{no_column, column_at}
 use Rattle.pk_bind.specs.Literals.{stored_fault, stored_value}
 use Rattle.pk_bind.specs.Conditions.{cond_fault, cond_asked}

@@ -9,7 +9,8 @@ ghost use Rattle.pk_bind.specs.Delete.{delete_refusals};
 ghost use Rattle.pk_bind.specs.Fitting.{cond_fits};
 
 use crate::bound::Bound;
-use crate::conditions::{cond_asked, cond_refusal};
+use crate::conditions::cond_asked;
+use crate::searching::cond_refusal;
 use pk_logic::Cond;
 use pk_parse::Delete;
 use pk_schema::Schema;

@@ -2,7 +2,7 @@
 
 ghost use Rattle.std.specs.Prelude.{◌≡◌, ◌≤◌, ◌++◌, [], length, map, IfOk, OnOk, IsTrue, All};
 ghost use Rattle.std.specs.List.{list_all, filter_map, cons_option};
-ghost use Rattle.std.specs.Option.{option_copied, option_map_or};
+ghost use Rattle.std.specs.Option.{option_copied};
 ghost use Rattle.pk_values.specs.declared.row.TheConstants.{MOST_COLUMNS};
 ghost use Rattle.pk_values.specs.Refusals.{first_some, first_by};
 ghost use Rattle.pk_parse.specs.Given.{has_utf8};
@@ -10,16 +10,15 @@ ghost use Rattle.pk_schema.specs.Admits.{Admits};
 ghost use Rattle.pk_schema.specs.Shapes.{column_named};
 ghost use Rattle.pk_bind.specs.Bound.{IsBound, IfReady};
 ghost use Rattle.pk_bind.specs.Columns.{no_column};
-ghost use Rattle.pk_bind.specs.Insert.{targets, missing_target, target_twice, targets_refusals, tuples_refusals, insert_refusals, sources, given, made_row, made_rows, new_rows};
-ghost use Rattle.pk_bind.specs.Literals.{stored_value};
+ghost use Rattle.pk_bind.specs.Insert.{targets, missing_target, target_twice, targets_refusals, tuples_refusals, insert_refusals, made_rows, new_rows};
 
 use crate::bound::Bound;
 use crate::columns::{missing_column, twice_refused};
-use crate::literals::stored_value;
+use crate::new_rows::made_rows;
 use crate::tuples::{long_row, tuples_refusal};
 use pk_parse::{Insert, Literal};
-use pk_schema::{Column, Schema, column_named, column_place, copied_column, twice};
-use pk_values::{Items, Memory, Name, Refusal, Row, Value};
+use pk_schema::{Column, Schema, column_named, copied_column, twice};
+use pk_values::{Items, Memory, Name, Refusal, Row};
 use std::alloc::Global;
 
 /// The new rows of an INSERT, or the first refusal that stands. The schema admits each of them.
@@ -145,82 +144,5 @@ fn from_tuples(
     match long_row(made.as_slice()) {
         Some(refusal) => Ok(Bound::Refused(refusal)),
         None => Ok(Bound::Ready(Items::from_vec(made))),
-    }
-}
-
-// The rows that tuples for these columns make.
-fn made_rows(
-    alloc: Global,
-    columns: &[Column],
-    listed: &[Column],
-    rows: &[Items<Literal>],
-) -> Result<Vec<Row>, Memory>
-    requires { length columns.now ≤ MOST_COLUMNS }
-    ensures { IfOk result (λ v. v.items ≡ made_rows columns.now listed.now rows.now) }
-{
-    let sources = sources(alloc, columns, listed)?;
-    rows_from(alloc, sources.as_slice(), rows)
-}
-
-// The rows of tuples whose literals go to the columns from these places.
-fn rows_from(
-    alloc: Global,
-    sources: &[Option<usize>],
-    rows: &[Items<Literal>],
-) -> Result<Vec<Row>, Memory>
-    requires { length sources.now ≤ MOST_COLUMNS }
-    ensures { IfOk result (λ v. v.items ≡ map (made_row sources.now) rows.now) }
-{
-    let mut made = Vec::with_capacity(alloc, rows.len())?;
-    for row in rows {
-        made.push(made_row(alloc, sources, row.as_slice())?)?;
-    }
-    Ok(made)
-}
-
-// For each column of the table, the place of its literal in a tuple.
-fn sources(
-    alloc: Global,
-    columns: &[Column],
-    listed: &[Column],
-) -> Result<Vec<Option<usize>>, Memory>
-    ensures { IfOk result (λ v. v.items ≡ sources columns.now listed.now) }
-{
-    let mut sources = Vec::with_capacity(alloc, columns.len())?;
-    for column in columns {
-        sources.push(column_place(listed, &column.name))?;
-    }
-    Ok(sources)
-}
-
-// The row of a tuple.
-#[tactic(auto, unfolding(crate::specs::Insert::made_row))]
-fn made_row(alloc: Global, sources: &[Option<usize>], row: &[Literal]) -> Result<Row, Memory>
-    requires { length sources.now ≤ MOST_COLUMNS }
-    ensures { IfOk result (λ made. made ≡ made_row sources.now row.now) }
-{
-    let mut values = Vec::with_capacity(alloc, sources.len())?;
-    for source in sources {
-        values.push(given(alloc, row, *source)?)?;
-    }
-    Ok(Row::make(values))
-}
-
-// The literal at this place, stored; null where there is none.
-fn given(alloc: Global, row: &[Literal], source: Option<usize>) -> Result<Value, Memory>
-    ensures { IfOk result (λ value. value ≡ given row.now source) }
-{
-    match source {
-        None => Ok(Value::Null),
-        Some(place) => stored_or_null(alloc, row.get(place)),
-    }
-}
-
-fn stored_or_null(alloc: Global, literal: Option<&Literal>) -> Result<Value, Memory>
-    ensures { IfOk result (λ value. value ≡ option_map_or stored_value (option_copied literal.entry) Value.Null) }
-{
-    match literal {
-        None => Ok(Value::Null),
-        Some(literal) => stored_value(alloc, literal),
     }
 }

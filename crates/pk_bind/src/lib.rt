@@ -4,6 +4,9 @@
 //! Each call has one clause on what it makes: `IsBound` of the statement's refusals, in their order, and
 //! of its meaning where none stands. What is ready may be done on every row that the schema admits:
 //! conditions are over the kinds of the columns, places lie within the row, and new rows are admitted.
+//!
+//! Contracts see a `Bound` as what is ready or the refusal, and an `Edit`, a `Selection` and their parts as
+//! plain data: columns by their places, values as they are stored, and conditions as pk_logic's.
 #![tactic(auto)]
 
 mod bound;
@@ -15,6 +18,8 @@ mod edit;
 mod insertion;
 mod laws;
 mod literals;
+mod new_rows;
+mod searching;
 mod selecting;
 mod selection;
 mod tuples;
@@ -33,6 +38,3 @@ pub use laws::{
 pub use selecting::bind_select;
 pub use selection::{OrderBy, Selection, Shown};
 pub use updating::bind_update;
-
-#[cfg(test)]
-mod tests;

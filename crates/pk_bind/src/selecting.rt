@@ -11,7 +11,8 @@ ghost use Rattle.pk_bind.specs.Select.{missing_shown, missing_order, missing_fro
 
 use crate::bound::Bound;
 use crate::columns::{column_at, missing_column, no_column};
-use crate::conditions::{Search, cond_asked, cond_fault};
+use crate::conditions::cond_asked;
+use crate::searching::{Search, cond_fault};
 use crate::selection::{OrderBy, Selection, Shown};
 use pk_parse::{OrderPart, Select, What};
 use pk_schema::{Column, Schema};

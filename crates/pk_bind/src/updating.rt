@@ -13,9 +13,10 @@ ghost use Rattle.pk_bind.specs.Update.{missing_from, set_twice, found_fault, set
 
 use crate::bound::Bound;
 use crate::columns::{column_at, no_column, twice_refused};
-use crate::conditions::{Search, cond_asked, cond_fault};
+use crate::conditions::cond_asked;
 use crate::edit::{Edit, SetTo};
 use crate::literals::{Check, stored_fault, stored_value};
+use crate::searching::{Search, cond_fault};
 use pk_parse::{Literal, SetPart, Update};
 use pk_schema::{Column, Schema, column_named, twice};
 use pk_values::{Items, Memory, Name, Refusal};

@@ -5,6 +5,7 @@ use Rattle.pk_values.specs.Refusals.{first_some}
 use Rattle.pk_engine.specs.State.{State}
 use Rattle.pk_engine.specs.Base.{Table}
 use Rattle.pk_engine.specs.Refusing.{Step, refused, decided, refused_or, about, about_found, table_of}
+use Rattle.pk_values.proofs.RefusalLemmas.{first_before, first_behind}
 
 -- where a refusal stands, it is the answer
 pub decided_refused : (st : State) (rs : List (Option Refusal)) (done : Step) (r : Refusal) → first_some rs ≡ Some r → decided st rs done ≡ refused st r
@@ -14,29 +15,9 @@ decided_refused st rs done r stands = rw stands refl
 pub decided_done : (st : State) (rs : List (Option Refusal)) (done : Step) → first_some rs ≡ None → decided st rs done ≡ done
 decided_done st rs done free = rw free refl
 
-pub first_of_front : (xs ys : List (Option Refusal)) (r : Refusal) → first_some xs ≡ Some r → first_some (xs ++ ys) ≡ Some r
-first_of_front [] ys r stands = absurd cc
-first_of_front (Some x ∷ xs) ys r stands = stands
-first_of_front (None ∷ xs) ys r stands = first_of_front xs ys r stands
-
-pub first_behind : (xs ys : List (Option Refusal)) → first_some xs ≡ None → first_some (xs ++ ys) ≡ first_some ys
-first_behind [] ys free = refl
-first_behind (Some x ∷ xs) ys free = absurd cc
-first_behind (None ∷ xs) ys free = first_behind xs ys free
-
--- where none of a list stands, none of its parts does
-pub front_free : (xs ys : List (Option Refusal)) → first_some (xs ++ ys) ≡ None → (first_some xs ≡ None) × (first_some ys ≡ None)
-front_free [] ys free = (refl, free)
-front_free (Some r ∷ xs) ys free = absurd cc
-front_free (None ∷ xs) ys free = front_free xs ys free
-
-pub head_free : (o : Option Refusal) (rs : List (Option Refusal)) → first_some (o ∷ rs) ≡ None → (o ≡ None) × (first_some rs ≡ None)
-head_free None rs free = (refl, free)
-head_free (Some r) rs free = absurd cc
-
 -- a refusal of the first ones is the answer, whatever stands behind them
 pub decided_front : (st : State) (xs ys : List (Option Refusal)) (done : Step) (r : Refusal) → first_some xs ≡ Some r → decided st (xs ++ ys) done ≡ refused st r
-decided_front st xs ys done r stands = decided_refused st (xs ++ ys) done r (first_of_front xs ys r stands)
+decided_front st xs ys done r stands = decided_refused st (xs ++ ys) done r (first_before xs ys r stands)
 
 -- where none of the first ones stands, the others decide
 pub decided_behind : (st : State) (xs ys : List (Option Refusal)) (done : Step) → first_some xs ≡ None → decided st (xs ++ ys) done ≡ decided st ys done

@@ -1,6 +1,6 @@
 -- A commit of changes that entries make of one table.
-use Rattle.std.proofs.Common.{◌≡◌, ℕ, ◌+◌, ◌-◌, ◌^◌, ◌≤◌, ◌<◌, true, false, List, [], ◌∷◌, length, get_or, set, Option, Some, None, Ok, Err, ap, refl, ◌∙◌, sym, subst, arith}
-use Rattle.std.specs.Prelude.{min, nat_le, nat_lt, sum_by, filter, slice_get, insert}
+use Rattle.std.proofs.Common.{◌≡◌, ℕ, ◌+◌, ◌-◌, ◌^◌, ◌≤◌, ◌<◌, true, List, [], ◌∷◌, length, get_or, set, Some, None, Ok, Err, ap, refl, ◌∙◌, sym, subst, arith}
+use Rattle.std.specs.Prelude.{min, nat_le, sum_by, filter, slice_get, insert}
 use Rattle.std.specs.List.{position, remove}
 use Rattle.std.proofs.lemmas.List.Sums.{sum_by-set, sum_by-remove}
 use Rattle.std.proofs.lemmas.Option.{get_or_from_slice_get, slice_get_within, slice_get-get_or}
@@ -24,7 +24,7 @@ use Rattle.pk_engine.specs.Keys.{key_broken}
 use Rattle.pk_engine.specs.Entries.{AreOf}
 use Rattle.pk_engine.specs.Limits.{most_tables, most_rows, most_ids, rows_full, ids_full, commits_full, limit_refusals}
 use Rattle.pk_engine.specs.Place.{IsPlaceOf}
-use Rattle.pk_engine.specs.Rows.{IdsAscend}
+use Rattle.pk_guard.specs.Changed.{IdsAscend}
 use Rattle.pk_engine.specs.State.{State, Made, Dropped, Changed, made_table, current, committed, with_commit}
 use Rattle.pk_engine.specs.Stands.{StandsFor}
 use Rattle.pk_engine.specs.Valid.{IsValidTable}
@@ -35,8 +35,10 @@ use Rattle.pk_engine.proofs.TableLemmas.{change_place, without_place, with_table
 use Rattle.pk_engine.proofs.EntryLemmas.{entries_committed, entries_counted, length-placed, put_counted, added_few, gone_ascend}
 use Rattle.pk_engine.proofs.LimitLemmas.{rows_within, ids_within, commits_within}
 use Rattle.pk_engine.proofs.StandsLemmas.{table_at, table_absent, place_within, stands_table, stands_tables, stands_order, stands_rows, stands_valid, stands_commit, commit_stands}
-use Rattle.pk_engine.proofs.AnswerLemmas.{first_behind, second_refused, both_free, head_free}
+use Rattle.pk_engine.proofs.AnswerLemmas.{second_refused, both_free}
 use Rattle.pk_engine.proofs.ValidLemmas.{changed_is_valid, made_is_valid, dropped_is_valid, rows_with_table}
+use Rattle.pk_values.proofs.RefusalLemmas.{first_behind, head_free, first_alone}
+use Rattle.std.proofs.lemmas.Bool.{lt-ltb, le-ltb}
 
 -- how many rows are new
 abbrev pub added_by : Table → Changes → ℕ
@@ -118,35 +120,19 @@ rows_with_is e st place t c n stands is count sum =
 
 pub rows_refused : (st : State) (t : Table) (c : Changes) (n : ℕ) → n ≡ min (row_count (committed (current st) (Changed ((t.name, c) ∷ [])))) (2 ^ 64 - 1) → most_rows < n
     → Some (BaseLimit base_limits.Rows) ≡ first_some (limit_refusals st t c)
-rows_refused st t c n is gt = rw (over most_rows (row_count (committed (current st) (Changed ((t.name, c) ∷ [])))) (omega (arith, is, gt))) refl
-  where
-    over : (m k : ℕ) → m < k → nat_lt m k ≡ true
-    over m k lt = grind (arith, lt)
+rows_refused st t c n is gt = rw (lt-ltb most_rows (row_count (committed (current st) (Changed ((t.name, c) ∷ [])))) (omega (arith, is, gt))) refl
 
 pub rows_free : (st : State) (t : Table) (c : Changes) (n : ℕ) → n ≡ min (row_count (committed (current st) (Changed ((t.name, c) ∷ [])))) (2 ^ 64 - 1) → n ≤ most_rows
     → first_some (limit_refusals st t c) ≡ first_some (ids_full t c ∷ commits_full st ∷ [])
-rows_free st t c n is le = rw (under most_rows (row_count (committed (current st) (Changed ((t.name, c) ∷ [])))) (omega (arith, is, le))) refl
-  where
-    under : (m k : ℕ) → k ≤ m → nat_lt m k ≡ false
-    under m k le = grind (arith, le)
+rows_free st t c n is le = rw (le-ltb most_rows (row_count (committed (current st) (Changed ((t.name, c) ∷ [])))) (omega (arith, is, le))) refl
 
 pub ids_refused : (st : State) (t : Table) (c : Changes) → IsCounted t c → most_ids < min (t.next + added_by t c) (2 ^ 64 - 1)
     → Some (BaseLimit base_limits.RowIds) ≡ first_some (ids_full t c ∷ commits_full st ∷ [])
-ids_refused st t c count gt = rw (over most_ids (changed_by c t).next (let next = count.next in omega (arith, next, gt))) refl
-  where
-    over : (m k : ℕ) → m < k → nat_lt m k ≡ true
-    over m k lt = grind (arith, lt)
+ids_refused st t c count gt = rw (lt-ltb most_ids (changed_by c t).next (let next = count.next in omega (arith, next, gt))) refl
 
 pub ids_free : (st : State) (t : Table) (c : Changes) → IsCounted t c → min (t.next + added_by t c) (2 ^ 64 - 1) ≤ most_ids
     → first_some (ids_full t c ∷ commits_full st ∷ []) ≡ commits_full st
-ids_free st t c count le = rw (under most_ids (changed_by c t).next (let next = count.next in omega (arith, next, le))) (alone (commits_full st))
-  where
-    under : (m k : ℕ) → k ≤ m → nat_lt m k ≡ false
-    under m k le = grind (arith, le)
-
-    alone : (o : Option Refusal) → first_some (o ∷ []) ≡ o
-    alone (Some r) = refl
-    alone None = refl
+ids_free st t c count le = rw (le-ltb most_ids (changed_by c t).next (let next = count.next in omega (arith, next, le))) (first_alone (commits_full st))
 
 -- ---- the commit
 
@@ -181,13 +167,9 @@ changes_stand e n st place t c rows stands is good of none sum commit tables cou
 
 -- ---- what changes are refused for
 
-first_one : (o : Option Refusal) → first_some (o ∷ []) ≡ o
-first_one (Some r) = refl
-first_one None = refl
-
 -- where the limits have room, the keys decide
 pub keys_decide : (st : State) (t : Table) (c : Changes) → first_some (limit_refusals st t c) ≡ None → first_some (change_refusals st t c) ≡ key_broken (changed_by c t)
-keys_decide st t c free = first_behind (limit_refusals st t c) (key_broken (changed_by c t) ∷ []) free ∙ first_one (key_broken (changed_by c t))
+keys_decide st t c free = first_behind (limit_refusals st t c) (key_broken (changed_by c t) ∷ []) free ∙ first_alone (key_broken (changed_by c t))
 
 -- ---- the table at a place
 

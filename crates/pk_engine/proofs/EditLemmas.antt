@@ -9,7 +9,7 @@ use Rattle.pk_values.specs.declared.refusal.Refusal.{Refusal}
 use Rattle.pk_values.specs.declared.refusal.Refusal.TheVariants.{LongRow}
 use Rattle.pk_values.specs.declared.value.Value.{Value}
 use Rattle.pk_values.specs.Records.{row_record}
-use Rattle.pk_values.specs.Refusals.{first_some, or_else, first_by}
+use Rattle.pk_values.specs.Refusals.{first_some, first_by}
 use Rattle.pk_parse.specs.declared.edit.Insert.{Insert}
 use Rattle.pk_parse.specs.declared.edit.SetPart.{SetPart}
 use Rattle.pk_parse.specs.declared.edit.Update.{Update}
@@ -35,8 +35,9 @@ use Rattle.pk_engine.specs.Entries.{AreOf}
 use Rattle.pk_engine.specs.Refusing.{decided}
 use Rattle.pk_engine.specs.State.{State}
 use Rattle.pk_engine.specs.Valid.{IsValidTable}
-use Rattle.pk_engine.proofs.AnswerLemmas.{decided_behind, front_free, head_free}
+use Rattle.pk_engine.proofs.AnswerLemmas.{decided_behind}
 use Rattle.pk_engine.proofs.EntryLemmas.{follow_kept, follow_added, follow_reset, follow_chosen}
+use Rattle.pk_values.proofs.RefusalLemmas.{front_free, head_free, neither}
 
 -- the schema admits the row of each entry
 abbrev AreAdmitted : Shape → List Entry → Type 0
@@ -85,11 +86,6 @@ small_enough row free = go (nat_le (length (row_record row)) 4000) refl free
     go true test free = within_4000 (length (row_record row)) test
     go false test free = absurd cc
 
-first_free : (a b : Option Refusal) → or_else a b ≡ None → (a ≡ None) × (b ≡ None)
-first_free None None free = (refl, refl)
-first_free None (Some r) free = absurd cc
-first_free (Some r) b free = absurd cc
-
 updated_admitted : (s : Shape) (e : Edit) (xs : List Entry) → edit_fits s.columns e ≡ true → AreAdmitted s xs
     → first_by (λ x. long_row (with_sets e.sets (row_in x))) (filter (λ x. takes e.cond (row_in x)) xs) ≡ None → AreAdmitted s (map (updated_entry e) xs)
 updated_admitted s e [] fits seen short = tt
@@ -100,7 +96,7 @@ updated_admitted s e (x ∷ xs) fits seen short =
         → (first_by (λ y. long_row (with_sets e.sets (row_in y))) (filter (λ y. takes e.cond (row_in y)) xs) ≡ None → AreAdmitted s (map (updated_entry e) xs))
         → AreAdmitted s ((if b then with_row (with_sets e.sets (row_in x)) x else x) ∷ map (updated_entry e) xs)
     go true short rest =
-        let w = first_free (long_row (with_sets e.sets (row_in x))) _ short in
+        let w = neither (long_row (with_sets e.sets (row_in x))) _ short in
         (subst (Admits s) (sym (row_of_set (with_sets e.sets (row_in x)) x)) (set_row_admitted s (row_in x) e seen.0 fits (small_enough (with_sets e.sets (row_in x)) w.0)), rest w.1)
     go false short rest = (seen.0, rest short)
 

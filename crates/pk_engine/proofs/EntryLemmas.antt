@@ -7,26 +7,19 @@ use Rattle.std.specs.List.Sorted.{IsStrictlySortedBy}
 use Rattle.std.specs.List.{list_any, AllByRecursion}
 use Rattle.std.proofs.lemmas.Map.Views.{any-filter_same}
 use Rattle.std.proofs.lemmas.List.{append-nil}
-use Rattle.std.proofs.lemmas.Bool.{eqb-true}
+use Rattle.std.proofs.lemmas.Bool.{eqb-true, or_right, lt-ltb}
 use Rattle.pk_values.specs.declared.placed.Placed.{Placed}
 use Rattle.pk_values.specs.declared.value.Value.{Value}
 use Rattle.pk_exec.specs.Rows.{ids_of}
 use Rattle.pk_exec.specs.Entries.{Entry, Kept, Touched, New, row_in, with_row as set_row, kept_entry}
 use Rattle.pk_exec.specs.Changes.{is_entry_of, gone_ids, touched_rows, added_rows, placed_from, changes_of}
 use Rattle.pk_engine.specs.Base.{Table, has_id, replaced_by, with_row, with_rows, changed_by}
-use Rattle.pk_engine.specs.Rows.{IdsRise, IdsAscend}
+use Rattle.pk_guard.specs.Changed.{IdsAscend}
+use Rattle.pk_engine.specs.Rows.{IdsRise}
 use Rattle.pk_engine.specs.Entries.{AreNew, Follow, Ends, Goes, Stays, Turns, placed}
+use Rattle.pk_engine.proofs.RowLemmas.{other_id, other_above, kept_head, replaced_head, lower_rise}
 
 -- ---- ids
-
-same_id : (m n : ℕ) → (m == n) ≡ true → m ≡ n
-same_id m n same = eqb-true m n same
-
-other_id : (m n : ℕ) → m < n → (m == n) ≡ false
-other_id m n lt = grind (arith, lt)
-
-other_above : (m n : ℕ) → n + 1 ≤ m → (m == n) ≡ false
-other_above m n le = grind (arith, le)
 
 pub id_of_itself : (n : ℕ) → (n == n) ≡ true
 id_of_itself n = grind arith
@@ -53,19 +46,15 @@ gone_when : (es : List Entry) (rows : List Placed) (p : Placed) → has_id (gone
 unfolding gone_ids
 gone_when es rows p =
     any-filter_same (λ (id : ℕ). id == p.id) (λ (id : ℕ). not (has_entry es id)) (not (has_entry es p.id))
-    (λ id same. ap (λ (i : ℕ). not (has_entry es i)) (same_id id p.id same)) (ids_of rows)
+    (λ id same. ap (λ (i : ℕ). not (has_entry es i)) (eqb-true id p.id same)) (ids_of rows)
 
 -- each of these is found in the whole
 abbrev AreFound : List Placed → List Placed → Type 0
 AreFound whole rows = AllByRecursion (λ p. list_any (λ (id : ℕ). id == p.id) (ids_of whole) ≡ true) rows
 
-or_true : (a b : Bool) → b ≡ true → (a || b) ≡ true
-or_true true b e = refl
-or_true false b e = e
-
 found_more : (r : Placed) (whole rows : List Placed) → AreFound whole rows → AreFound (r ∷ whole) rows
 found_more r whole [] found = tt
-found_more r whole (p ∷ ps) found = (or_true (r.id == p.id) _ found.0, found_more r whole ps found.1)
+found_more r whole (p ∷ ps) found = (or_right (r.id == p.id) _ found.0, found_more r whole ps found.1)
 
 pub found_whole : (rows : List Placed) → AreFound rows rows
 found_whole [] = tt
@@ -160,11 +149,8 @@ unfolding with_rows
 rows_put_both [] ys t = refl
 rows_put_both (x ∷ xs) ys t = rows_put_both xs ys (with_row t x)
 
-not_below : (n : ℕ) → nat_lt n n ≡ false
+pub not_below : (n : ℕ) → nat_lt n n ≡ false
 not_below n = grind arith
-
-below : (m n : ℕ) → m < n → nat_lt m n ≡ true
-below m n lt = grind (arith, lt)
 
 abbrev by_id : Table → Placed → Bool → Table
 by_id t p known = if known then tab t t.next (map (replaced_by p) t.rows) else tab t (p.id + 1) (t.rows ++ p ∷ [])
@@ -174,7 +160,7 @@ unfolding with_row
 row_is_put t p = refl
 
 row_replaced : (t : Table) (p : Placed) → p.id < t.next → with_row t p ≡ tab t t.next (map (replaced_by p) t.rows)
-row_replaced t p lt = row_is_put t p ∙ ap (by_id t p) (below p.id t.next lt)
+row_replaced t p lt = row_is_put t p ∙ ap (by_id t p) (lt-ltb p.id t.next lt)
 
 row_added : (t : Table) (next : ℕ) (rows : List Placed) (row : List Value) → with_row (tab t next rows) (record { id = next; row = row }) ≡ tab t (next + 1) (rows ++ record { id = next; row = row } ∷ [])
 row_added t next rows row = row_is_put (tab t next rows) (record { id = next; row = row }) ∙ ap (by_id (tab t next rows) (record { id = next; row = row })) (not_below next)
@@ -195,12 +181,6 @@ new_put t next rows (row ∷ new) =
     ∙ new_put t (next + 1) (rows ++ p ∷ []) new
     ∙ ap (λ (rs : List Placed). tab t (next + 1 + length new) rs) (append_assoc rows (p ∷ []) (placed_from (next + 1) new))
     ∙ ap (λ (n : ℕ). tab t n (rows ++ p ∷ placed_from (next + 1) new)) (sum_one next (length new))
-
-kept_head : (b : Bool) (p r : Placed) (rest : List Placed) → b ≡ false → (if b then p else r) ∷ rest ≡ r ∷ rest
-kept_head b p r rest e = rw e refl
-
-replaced_head : (b : Bool) (p r : Placed) (rest : List Placed) → b ≡ true → (if b then p else r) ∷ rest ≡ p ∷ rest
-replaced_head b p r rest e = rw e refl
 
 -- a row is put in place of none with a higher id
 untouched : (p : Placed) (rows : List Placed) → AreFrom (p.id + 1) rows → map (replaced_by p) rows ≡ rows
@@ -376,10 +356,6 @@ follow_added news _ _ (Turns p ps row es d) = Turns p ps row _ (follow_added new
 
 -- ---- the rows of the entries
 
-rise_lower : (low high next : ℕ) (ps : List Placed) → low ≤ high → IdsRise high ps next → IdsRise low ps next
-rise_lower low high next [] le rise = omega (arith, le, rise)
-rise_lower low high next (p ∷ ps) le rise = (omega (arith, le, rise.0), rise.1)
-
 new_rise : (next : ℕ) (es : List Entry) → AreNew es → IdsRise next (placed next es) (next + length (added_rows es))
 new_rise next [] new = omega arith
 new_rise next (Kept k r ∷ es) new = absurd new
@@ -389,8 +365,8 @@ new_rise next (New r ∷ es) new =
 
 -- ids rise after entries as they did before
 pub entries_rise : (rows : List Placed) (es : List Entry) (least next : ℕ) → Follow rows es → IdsRise least rows next → IdsRise least (placed next es) (next + length (added_rows es))
-entries_rise _ _ least next (Ends es new) rise = rise_lower least next _ _ rise (new_rise next es new)
-entries_rise _ _ least next (Goes p ps es d) rise = rise_lower least (p.id + 1) _ _ (omega (arith, rise.0)) (entries_rise ps es (p.id + 1) next d rise.1)
+entries_rise _ _ least next (Ends es new) rise = lower_rise least next _ _ rise (new_rise next es new)
+entries_rise _ _ least next (Goes p ps es d) rise = lower_rise least (p.id + 1) _ _ (omega (arith, rise.0)) (entries_rise ps es (p.id + 1) next d rise.1)
 entries_rise _ _ least next (Stays p ps es d) rise = (rise.0, entries_rise ps es (p.id + 1) next d rise.1)
 entries_rise _ _ least next (Turns p ps row es d) rise = (rise.0, entries_rise ps es (p.id + 1) next d rise.1)
 

@@ -7,31 +7,29 @@ use Rattle.pk_values.specs.declared.changes.Changes.{Changes}
 use Rattle.pk_values.specs.declared.placed.Placed.{Placed}
 use Rattle.pk_values.specs.declared.refusal.Refusal.{Refusal}
 use Rattle.pk_values.specs.Refusals.{first_some}
-use Rattle.pk_parse.specs.declared.edit.Insert.{Insert}
-use Rattle.pk_parse.specs.declared.edit.Update.{Update}
-use Rattle.pk_parse.specs.declared.edit.Delete.{Delete}
 use Rattle.pk_schema.specs.Shapes.{IsShape}
 use Rattle.pk_schema.specs.Admits.{Admits}
 use Rattle.pk_exec.specs.Refusals.{work_insert_refusals, work_update_refusals, work_delete_refusals}
 use Rattle.pk_guard.specs.Breaks.{first_break}
 use Rattle.pk_guard.proofs.LeastLemmas.{breaks_show_two_rows}
 use Rattle.pk_engine.specs.Base.{Table, changed_by}
-use Rattle.pk_engine.specs.State.{State, current}
+use Rattle.pk_engine.specs.State.{State}
 use Rattle.pk_engine.specs.Refusing.{Step, refused, decided, about, about_found, table_of}
 use Rattle.pk_engine.specs.Limits.{limit_refusals}
 use Rattle.pk_engine.specs.Keys.{key_refusal, key_broken, KeepsKeys}
 use Rattle.pk_engine.specs.Edits.{is_unchanged, change_refusals, commit_refusals, changes_in, entries_in, insert_entries, insert_refusals, inserted, update_entries, update_refusals, updated_rows, delete_entries, delete_refusals, deleted_rows}
 use Rattle.pk_engine.specs.Entries.{AreOf}
-use Rattle.pk_engine.specs.Valid.{IsValid, IsValidTable}
+use Rattle.pk_engine.specs.Valid.{IsValidTable}
 use Rattle.pk_engine.specs.Answer.{answer}
-use Rattle.pk_engine.specs.KeyLaws.{ShowsBreak, judged_before, IsJudged, AreJudged, KeysAreJudgedByCompletions}
-use Rattle.pk_engine.proofs.AnswerLemmas.{decided_refused, decided_done, decided_front, decided_behind, first_of_front, front_free}
+use Rattle.pk_engine.specs.KeyLaws.{ShowsBreak, IsJudged, KeysAreJudgedByCompletions}
+use Rattle.pk_engine.proofs.AnswerLemmas.{decided_refused, decided_done, decided_front, decided_behind}
 use Rattle.pk_engine.proofs.EditLemmas.{insert_of, update_of, delete_of}
 use Rattle.pk_engine.proofs.KeptLemmas.{found_valid}
 use Rattle.pk_engine.proofs.KeyLemmas.{unbroken_hold, held_unbroken}
 use Rattle.pk_engine.proofs.MadeLemmas.{unchanged_by}
 use Rattle.pk_engine.proofs.RowLemmas.{changed_is_same}
 use Rattle.pk_engine.proofs.ValidLemmas.{changed_admitted}
+use Rattle.pk_values.proofs.RefusalLemmas.{front_free}
 
 -- ---- a table whose keys are judged
 

@@ -33,12 +33,12 @@ use Rattle.pk_engine.specs.Select.{selected_rows}
 use Rattle.pk_engine.specs.Valid.{IsValid, IsValidTable, names_are_names}
 use Rattle.pk_engine.specs.Reasoning.{implies_refusals, implied_told}
 use Rattle.pk_engine.specs.Answer.{answer}
-use Rattle.pk_engine.proofs.AnswerLemmas.{front_free, head_free}
 use Rattle.pk_engine.proofs.CommitLemmas.{has_room}
 use Rattle.pk_engine.proofs.EditLemmas.{insert_of, update_of, delete_of}
 use Rattle.pk_engine.proofs.LimitLemmas.{rows_within, ids_within, commits_within, tables_within}
 use Rattle.pk_engine.proofs.StandsLemmas.{current_more}
 use Rattle.pk_engine.proofs.ValidLemmas.{changed_is_valid, made_is_valid, dropped_is_valid}
+use Rattle.pk_values.proofs.RefusalLemmas.{front_free, head_free}
 
 -- ---- what a refusal, or what is done where none stands, keeps
 

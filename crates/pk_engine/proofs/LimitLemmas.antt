@@ -1,5 +1,5 @@
 -- The limits of the base, by what the engine counts.
-use Rattle.std.proofs.Common.{◌≡◌, ℕ, ◌≤◌, ◌<◌, Bool, true, false, [], ◌∷◌, length, Some, None, ap, refl, sym, arith, nat_lt}
+use Rattle.std.proofs.Common.{◌≡◌, ℕ, ◌≤◌, ◌<◌, Bool, true, false, [], ◌∷◌, length, Some, None, ap, refl, sym, arith}
 use Rattle.std.specs.Prelude.{nat_le}
 use Rattle.pk_values.specs.declared.changes.Changes.{Changes}
 use Rattle.pk_values.specs.declared.refusal.Refusal.{Refusal}
@@ -13,6 +13,7 @@ use Rattle.pk_engine.specs.Refusing.{when}
 use Rattle.pk_engine.specs.Stands.{StandsFor}
 use Rattle.pk_engine.specs.declared.engine.Engine.{Engine}
 use Rattle.pk_engine.proofs.StandsLemmas.{stands_tables, stands_commit}
+use Rattle.std.proofs.lemmas.Bool.{ltb-false, leb-false}
 
 above : (m n : ℕ) → n < m → nat_le m n ≡ false
 above m n lt = grind (arith, lt)
@@ -41,20 +42,14 @@ room_if : (b : Bool) (r : Refusal) → when b r ≡ None → b ≡ false
 room_if true r none = absurd cc
 room_if false r none = refl
 
-not_above : (m n : ℕ) → nat_lt m n ≡ false → n ≤ m
-not_above m n test = grind (arith, test)
-
-not_reached : (m n : ℕ) → nat_le m n ≡ false → n < m
-not_reached m n test = grind (arith, test)
-
 pub rows_within : (st : State) (t : Table) (c : Changes) → rows_full st (Changed ((t.name, c) ∷ [])) ≡ None → row_count (committed (current st) (Changed ((t.name, c) ∷ []))) ≤ most_rows
-rows_within st t c none = not_above most_rows _ (room_if _ (BaseLimit base_limits.Rows) none)
+rows_within st t c none = ltb-false most_rows _ (room_if _ (BaseLimit base_limits.Rows) none)
 
 pub ids_within : (t : Table) (c : Changes) → ids_full t c ≡ None → (changed_by c t).next ≤ most_ids
-ids_within t c none = not_above most_ids _ (room_if _ (BaseLimit base_limits.RowIds) none)
+ids_within t c none = ltb-false most_ids _ (room_if _ (BaseLimit base_limits.RowIds) none)
 
 pub commits_within : (st : State) → commits_full st ≡ None → (current st).commit < most_ids
-commits_within st none = not_reached most_ids _ (room_if _ (BaseLimit base_limits.Commits) none)
+commits_within st none = leb-false most_ids _ (room_if _ (BaseLimit base_limits.Commits) none)
 
 pub tables_within : (st : State) → tables_full st ≡ None → length (current st).tables < most_tables
-tables_within st none = not_reached most_tables _ (room_if _ (Limit limits.Tables) none)
+tables_within st none = leb-false most_tables _ (room_if _ (Limit limits.Tables) none)

@@ -2,14 +2,12 @@
 use Rattle.std.proofs.Common.{◌≡◌, ◌≢◌, ℕ, zero, suc, ◌+◌, ◌<◌, Bool, true, false, not, List, [], ◌∷◌, ◌++◌, length, map, Some, if◌then◌else◌, refl, sym, subst, ap, ◌∙◌, arith}
 use Rattle.std.specs.Prelude.{filter, cond, slice_set}
 use Rattle.std.specs.List.{AllByRecursion}
-use Rattle.std.proofs.lemmas.List.{length-map}
 use Rattle.std.proofs.lemmas.List.Elements.{recursion_from_All, All-from_recursion}
 use Rattle.std.proofs.lemmas.Slice.Eq.{bytes_eq-Decides}
 use Rattle.pk_values.specs.declared.changes.Changes.{Changes}
 use Rattle.pk_values.specs.declared.placed.Placed.{Placed}
 use Rattle.pk_values.specs.declared.value.Value.{Value}
 use Rattle.pk_values.specs.Values.{value_at}
-use Rattle.pk_parse.specs.declared.declaration.ColumnDecl.{ColumnDecl}
 use Rattle.pk_parse.specs.declared.edit.Insert.{Insert}
 use Rattle.pk_parse.specs.declared.edit.Update.{Update}
 use Rattle.pk_parse.specs.declared.edit.Delete.{Delete}
@@ -19,7 +17,7 @@ use Rattle.pk_bind.specs.declared.edit.Edit.{Edit}
 use Rattle.pk_bind.specs.declared.edit.SetTo.{SetTo}
 use Rattle.pk_bind.specs.Conditions.{cond_asked}
 use Rattle.pk_bind.specs.Fitting.{with_sets}
-use Rattle.pk_bind.specs.Insert.{new_rows, made_row, sources, targets}
+use Rattle.pk_bind.specs.Insert.{new_rows}
 use Rattle.pk_bind.specs.Update.{edit_of}
 use Rattle.pk_exec.specs.Entries.{Entry, New, row_in, with_row, kept_entry}
 use Rattle.pk_exec.specs.Edits.{takes, taken, updated_entry}
@@ -37,6 +35,7 @@ use Rattle.pk_engine.proofs.EntryLemmas.{entries_committed, follow_kept, follow_
 use Rattle.pk_engine.proofs.KeptLemmas.{found_valid, found_name, found_named}
 use Rattle.pk_engine.proofs.OtherLemmas.{about_says, tables_more, named}
 use Rattle.pk_engine.proofs.RowLemmas.{changed_is_same}
+use Rattle.pk_exec.proofs.InsertLemmas.{rows_counted}
 
 -- ---- entries committed
 
@@ -116,10 +115,6 @@ new_are [] [] = refl
 new_are [] (row ∷ news) = ap (λ (rest : List (List Value)). row ∷ rest) (new_are [] news)
 new_are (p ∷ ps) news = new_are ps news
 
-tuples_made : (columns : List ColumnDecl) (i : Insert) → length (new_rows columns i) ≡ length i.rows
-unfolding new_rows
-tuples_made columns i = length-map i.rows (made_row (sources columns (targets columns i.columns)))
-
 counted_inserted : (m n : ℕ) → replies.Inserted m ≡ replies.Inserted n → m ≡ n
 counted_inserted m n e = cc
 
@@ -130,7 +125,7 @@ insert_turns st i n t step valid found is replied =
     let es = insert_entries t i in
     let said = replies.Inserted (length i.rows) in
     let count : n ≡ length i.rows = sym (counted_inserted (length i.rows) n (reply_says st t es said (replies.Inserted n) step is replied)) in
-    let made : n ≡ length rows = count ∙ sym (tuples_made t.shape.columns i) in
+    let made : n ≡ length rows = count ∙ sym (rows_counted t.shape.columns i) in
     let more : length (added_rows es) ≡ n = ap length (new_are t.rows rows) ∙ sym made in
     let new : Table = record t { next = t.next + n; rows = t.rows ++ placed_from t.next rows } in (
       count,

@@ -29,10 +29,11 @@ use Rattle.pk_engine.specs.Select.{told_as, found, selected_rows}
 use Rattle.pk_engine.specs.Reasoning.{implies_refusals, implied_told}
 use Rattle.pk_engine.specs.Answer.{answer}
 use Rattle.pk_engine.specs.Laws.{SelectsChangeNothing, RefusalsChangeNothing, OtherTablesStay, CreatedTablesAreThere, DroppedTablesAreGone}
-use Rattle.pk_engine.proofs.AnswerLemmas.{about_leaves, told_leaves, head_free}
+use Rattle.pk_engine.proofs.AnswerLemmas.{about_leaves, told_leaves}
 use Rattle.pk_engine.proofs.KeptLemmas.{decided_keeps, about_keeps, found_name, none_exists}
 use Rattle.pk_engine.proofs.RowLemmas.{changed_is_same}
 use Rattle.pk_engine.proofs.StandsLemmas.{current_more}
+use Rattle.pk_values.proofs.RefusalLemmas.{head_free}
 
 -- ---- what leaves the state as it is
 

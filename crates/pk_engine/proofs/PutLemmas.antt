@@ -1,6 +1,5 @@
 -- The rows of a table with the changes that entries make of it, on which its keys are judged.
-use Rattle.std.proofs.Common.{◌≡◌, ℕ, ◌+◌, ◌≤◌, ◌<◌, true, false, not, ◌==◌, List, [], ◌∷◌, ◌++◌, map, refl, sym, ◌∙◌, ap, arith, if◌then◌else◌, subst, append_assoc}
-use Rattle.std.specs.Prelude.{nat_lt}
+use Rattle.std.proofs.Common.{◌≡◌, ℕ, ◌+◌, ◌≤◌, ◌<◌, List, [], ◌∷◌, ◌++◌, refl, sym, ◌∙◌, ap, arith, subst, append_assoc}
 use Rattle.std.specs.Ordering.{nat_cmp}
 use Rattle.std.specs.Cmp.{nat_cmp_is}
 use Rattle.std.specs.declared.cmp.Ordering.TheVariants.{Less}
@@ -18,27 +17,22 @@ use Rattle.pk_exec.specs.Changes.{touched_rows, added_rows, placed_from, changes
 use Rattle.pk_guard.specs.Changed.{put_row, put_rows, changed_rows}
 use Rattle.pk_engine.specs.Base.{Table, changed_by}
 use Rattle.pk_engine.specs.Rows.{IdsRise}
-use Rattle.pk_engine.specs.Entries.{AreNew, Follow, Ends, Goes, Stays, Turns, placed, AreOf}
+use Rattle.pk_engine.specs.Entries.{Follow, Ends, Goes, Stays, Turns, placed, AreOf}
 use Rattle.pk_engine.specs.Valid.{IsValidTable}
-use Rattle.pk_engine.proofs.EntryLemmas.{AreFrom, AreWithin, rise_from, id_of_itself, kept_by_entries, found_whole, with_entries, olds, nows, touched_none, touched_within, all_placed, entries_committed}
+use Rattle.pk_engine.proofs.EntryLemmas.{AreFrom, AreWithin, rise_from, id_of_itself, kept_by_entries, found_whole, with_entries, olds, nows, touched_none, touched_within, all_placed, entries_committed, not_below}
+use Rattle.std.proofs.lemmas.Bool.{lt-ltb}
 
 -- ---- one row put
-
-lower : (m n : ℕ) → m < n → nat_lt m n ≡ true
-lower m n lt = grind (arith, lt)
-
-not_lower : (n : ℕ) → nat_lt n n ≡ false
-not_lower n = grind arith
 
 -- a row with a lower id stands before it
 lower_stays : (p q : Placed) (qs : List Placed) → q.id < p.id → put_row p (q ∷ qs) ≡ q ∷ put_row p qs
 unfolding put_row
-lower_stays p q qs lt = rw (lower q.id p.id lt) refl
+lower_stays p q qs lt = rw (lt-ltb q.id p.id lt) refl
 
 -- the row with its id is replaced
 same_goes : (id : ℕ) (row old : List Value) (qs : List Placed) → put_row (record { id = id; row = row }) (record { id = id; row = old } ∷ qs) ≡ record { id = id; row = row } ∷ qs
 unfolding put_row
-same_goes id row old qs = rw (not_lower id, id_of_itself id) refl
+same_goes id row old qs = rw (not_below id, id_of_itself id) refl
 
 -- behind all others it stands last
 last_put : (p : Placed) (qs : List Placed) → AllByRecursion (λ q. q.id < p.id) qs → put_row p qs ≡ qs ++ p ∷ []

@@ -3,14 +3,15 @@ use Rattle.std.proofs.Common.{◌≡◌, ℕ, zero, ◌+◌, ◌≤◌, ◌<◌,
 use Rattle.std.specs.Prelude.{filter, nat_lt, cond}
 use Rattle.std.specs.List.Sorted.{IsBinarySearchResult, IsNonDecreasingBy}
 use Rattle.std.specs.Ordering.{nat_cmp, ordering_index}
-use Rattle.std.proofs.lemmas.Bool.{cases_lt, eqb-true}
+use Rattle.std.proofs.lemmas.Bool.{cases_lt, eqb-true, ltb-false}
 use Rattle.pk_values.specs.declared.placed.Placed.{Placed}
 use Rattle.pk_values.specs.declared.changes.Changes.{Changes}
 use Rattle.pk_exec.specs.Rows.{AscendFrom}
-use Rattle.pk_guard.proofs.ChangedLemmas.{less_numbers}
 use Rattle.pk_guard.proofs.IdLemmas.{equal_numbers, greater_numbers, index_least}
 use Rattle.pk_engine.specs.Base.{Table, has_id, replaced_by, with_row, with_rows, without_rows, changed_by}
 use Rattle.pk_engine.specs.Rows.{IdsRise}
+use Rattle.pk_values.proofs.NumberLemmas.{less_numbers}
+use Rattle.pk_exec.proofs.ListLemmas.{rise_at}
 
 -- ---- what changes of rows leave
 
@@ -44,18 +45,11 @@ rise_ascends least next (p ∷ ps) rise = (rise.0, rise_ascends (p.id + 1) next 
 pub blank_row : Placed
 blank_row = record { id = 0; row = [] }
 
-ids_above : (least : ℕ) (rows : List Placed) (i : ℕ) (d : Placed) → AscendFrom least rows → i < length rows → least ≤ (get_or rows i d).id
-ids_above least [] i d ascend within = absurd (omega (arith, within))
-ids_above least (r ∷ rs) zero d ascend within = ascend.0
-ids_above least (r ∷ rs) (suc i) d ascend within =
-    let above = ids_above (r.id + 1) rs i d ascend.1 (omega (arith, within)) in
-    omega (arith, above, ascend.0)
-
 ids_rise : (least : ℕ) (rows : List Placed) (i j : ℕ) (d : Placed) → AscendFrom least rows → i < j → j < length rows → (get_or rows i d).id < (get_or rows j d).id
 ids_rise least [] i j d ascend lt within = absurd (omega (arith, within))
 ids_rise least (r ∷ rs) i zero d ascend lt within = absurd (omega (arith, lt))
 ids_rise least (r ∷ rs) zero (suc j) d ascend lt within =
-    let above = ids_above (r.id + 1) rs j d ascend.1 (omega (arith, within)) in
+    let above = rise_at (r.id + 1) rs j d ascend.1 (omega (arith, within)) in
     omega (arith, above)
 ids_rise least (r ∷ rs) (suc i) (suc j) d ascend lt within = ids_rise (r.id + 1) rs i j d ascend.1 (omega (arith, lt)) (omega (arith, within))
 
@@ -84,17 +78,20 @@ row_missed rows id place k (Err i) ascend is missed within same =
 
 -- ---- a row is put in place of another
 
-other_above : (m n : ℕ) → n + 1 ≤ m → (m == n) ≡ false
+pub other_id : (m n : ℕ) → m < n → (m == n) ≡ false
+other_id m n lt = grind (arith, lt)
+
+pub other_above : (m n : ℕ) → n + 1 ≤ m → (m == n) ≡ false
 other_above m n le = grind (arith, le)
 
 other_test : (b : Bool) → (b ≡ true → ⊥) → b ≡ false
 other_test true no_way = absurd (no_way refl)
 other_test false no_way = refl
 
-kept_head : (b : Bool) (p r : Placed) (rest : List Placed) → b ≡ false → (if b then p else r) ∷ rest ≡ r ∷ rest
+pub kept_head : (b : Bool) (p r : Placed) (rest : List Placed) → b ≡ false → (if b then p else r) ∷ rest ≡ r ∷ rest
 kept_head b p r rest e = rw e refl
 
-replaced_head : (b : Bool) (p r : Placed) (rest : List Placed) → b ≡ true → (if b then p else r) ∷ rest ≡ p ∷ rest
+pub replaced_head : (b : Bool) (p r : Placed) (rest : List Placed) → b ≡ true → (if b then p else r) ∷ rest ≡ p ∷ rest
 replaced_head b p r rest e = rw e refl
 
 untouched : (p : Placed) (rows : List Placed) → AscendFrom (p.id + 1) rows → map (replaced_by p) rows ≡ rows
@@ -118,13 +115,10 @@ replaced_at p least (r ∷ rs) zero ascend within same =
     eq_test : (m n : ℕ) → m ≡ n → (m == n) ≡ true
     eq_test m n e = grind (arith, e)
 replaced_at p least (r ∷ rs) (suc i) ascend within same =
-    let above = ids_above (r.id + 1) rs i blank_row ascend.1 (omega (arith, within)) in
-    let differ : (r.id == p.id) ≡ false = lower_test r.id p.id (omega (arith, above, same)) in
+    let above = rise_at (r.id + 1) rs i blank_row ascend.1 (omega (arith, within)) in
+    let differ : (r.id == p.id) ≡ false = other_id r.id p.id (omega (arith, above, same)) in
     ap (λ (rest : List Placed). r ∷ rest) (replaced_at p (r.id + 1) rs i ascend.1 (omega (arith, within)) same)
     ∙ sym (kept_head (r.id == p.id) p r (map (replaced_by p) rs) differ)
-  where
-    lower_test : (m n : ℕ) → m < n → (m == n) ≡ false
-    lower_test m n lt = grind (arith, lt)
 
 -- no row has the id
 pub replaced_none : (p : Placed) (rows : List Placed) → ((k : ℕ) → k < length rows → (get_or rows k blank_row).id ≡ p.id → ⊥) → rows ≡ map (replaced_by p) rows
@@ -160,9 +154,6 @@ added_rise : (p : Placed) (least next : ℕ) (ps : List Placed) → IdsRise leas
 added_rise p least next [] rise le = (omega (arith, rise, le), omega arith)
 added_rise p least next (r ∷ rs) rise le = (rise.0, added_rise p (r.id + 1) next rs rise.1 le)
 
-at_least : (m n : ℕ) → nat_lt m n ≡ false → n ≤ m
-at_least m n test = grind (arith, test)
-
 -- a row that is put leaves the ids rising
 pub row_rises : (t : Table) (p : Placed) → IdsRise 1 t.rows t.next → IdsRise 1 (with_row t p).rows (with_row t p).next
 unfolding with_row
@@ -172,9 +163,9 @@ row_rises t p rise = go (nat_lt p.id t.next) refl
         → IdsRise 1 (if b then record t { rows = map (replaced_by p) t.rows } else record t { next = p.id + 1; rows = t.rows ++ p ∷ [] }).rows
         (if b then record t { rows = map (replaced_by p) t.rows } else record t { next = p.id + 1; rows = t.rows ++ p ∷ [] }).next
     go true test = replaced_rise p 1 t.next t.rows rise
-    go false test = added_rise p 1 t.next t.rows rise (at_least p.id t.next test)
+    go false test = added_rise p 1 t.next t.rows rise (ltb-false p.id t.next test)
 
-lower_rise : (low high next : ℕ) (ps : List Placed) → low ≤ high → IdsRise high ps next → IdsRise low ps next
+pub lower_rise : (low high next : ℕ) (ps : List Placed) → low ≤ high → IdsRise high ps next → IdsRise low ps next
 lower_rise low high next [] le rise = omega (arith, le, rise)
 lower_rise low high next (p ∷ ps) le rise = (omega (arith, le, rise.0), rise.1)
 

@@ -4,12 +4,11 @@ use Rattle.std.specs.Prelude.{filter, cond, find}
 use Rattle.std.specs.Option.{option_map, unwrap_or}
 use Rattle.std.specs.Ordering.{is_lt, is_gt, ordering_reverse}
 use Rattle.std.specs.declared.cmp.Ordering.TheVariants.{Less, Equal, Greater}
-use Rattle.std.specs.Cmp.{IsTotalOrder}
 use Rattle.std.specs.List.{AllByRecursion, range_with_len}
 use Rattle.std.proofs.lemmas.List.Elements.{recursion_from_All}
 use Rattle.std.specs.List.Sorted.{IsPermutation, ties}
-use Rattle.std.proofs.lemmas.Bool.{and_parts}
-use Rattle.std.proofs.lemmas.Cmp.{then_total, on_total, upto}
+use Rattle.std.proofs.lemmas.Bool.{and_parts, not-true}
+use Rattle.std.proofs.lemmas.Cmp.{upto}
 use Rattle.std.proofs.lemmas.List.{length-map}
 use Rattle.std.proofs.lemmas.List.Sorted.{IsPermutation-refl, IsPermutation-trans, IsPermutation-cons, IsPermutation-middle, length_permutation}
 use Rattle.std.proofs.lemmas.Option.{slice_get-map, unwrap_or-slice_get}
@@ -19,8 +18,7 @@ use Rattle.pk_values.specs.declared.refusal.Refusal.{Refusal}
 use Rattle.pk_values.specs.declared.value.Value.{Value}
 use Rattle.pk_values.specs.declared.value.Value.TheVariants.{Null}
 use Rattle.pk_values.specs.Refusals.{first_some, first_by}
-use Rattle.pk_values.specs.Values.{value_at, value_cmp}
-use Rattle.pk_values.proofs.ValueOrder.{value_cmp_total}
+use Rattle.pk_values.specs.Values.{value_at}
 use Rattle.pk_parse.specs.declared.declaration.ColumnDecl.{ColumnDecl}
 use Rattle.pk_parse.specs.declared.query.Select.{Select}
 use Rattle.pk_parse.specs.declared.query.What.{What}
@@ -35,44 +33,24 @@ use Rattle.pk_bind.specs.declared.selection.OrderBy.{OrderBy}
 use Rattle.pk_bind.specs.Columns.{no_column, column_at}
 use Rattle.pk_bind.specs.Conditions.{cond_asked}
 use Rattle.pk_bind.specs.Select.{select_refusals, missing_shown, missing_from, shown_of, selection_of}
-use Rattle.pk_bind.proofs.FoundLemmas.{neither, column_found}
+use Rattle.pk_bind.proofs.FoundLemmas.{column_found}
 use Rattle.pk_bind.proofs.HeldLemmas.{admits_held}
 use Rattle.pk_exec.specs.Entries.{row_in, kept_entry}
 use Rattle.pk_exec.specs.Edits.{takes}
-use Rattle.pk_exec.specs.Selecting.{turned, column_cmp, row_cmp, put_in_order, sorted_by, values_at, name_of, shown, selected}
+use Rattle.pk_exec.specs.Selecting.{row_cmp, put_in_order, sorted_by, values_at, name_of, shown, selected}
 use Rattle.pk_engine.specs.Base.{Table}
 use Rattle.pk_engine.specs.State.{State}
 use Rattle.pk_engine.specs.Refusing.{Step, about, about_found, decided, refused_or, table_of}
 use Rattle.pk_engine.specs.Select.{told_as, found, selected_rows}
 use Rattle.pk_engine.specs.Answer.{answer}
 use Rattle.pk_engine.specs.Laws.{rows_met, order_asked, values_under, SelectsTellTheirRows, WholeRowsAreTold, RowsArePutInOrder, CountsAreOfTheRowsShown}
-use Rattle.pk_engine.proofs.AnswerLemmas.{head_free}
 use Rattle.pk_engine.proofs.KeptLemmas.{found_valid}
 use Rattle.pk_engine.proofs.OtherLemmas.{about_says}
+use Rattle.pk_values.proofs.RefusalLemmas.{head_free, neither}
+use Rattle.pk_values.proofs.ListLemmas.{map_same}
+use Rattle.pk_exec.proofs.OrderLemmas.{row_total}
 
 -- ---- how two rows stand is a total order
-
-turned_round : {K : Type 0} {R : K → K → Ordering} → IsTotalOrder R → IsTotalOrder (λ x y. ordering_reverse (R x y))
-turned_round total = record {
-  antisymm = λ x y. ap ordering_reverse (total.antisymm x y);
-  trans = λ x y z xy yz. sym (total.antisymm z x) ∙ total.trans z y x (total.antisymm z y ∙ yz) (total.antisymm y x ∙ xy);
-  congr = λ x y z tied. ap ordering_reverse (total.congr x y z (total.antisymm x y ∙ ap ordering_reverse (total.antisymm y x ∙ tied)));
-}
-
-column_total : (by : OrderBy) → IsTotalOrder (column_cmp by)
-column_total by = go by.down
-  where
-    go : (down : Bool) → IsTotalOrder (λ a b. turned down (value_cmp (value_at a by.column) (value_at b by.column)))
-    go false = on_total (λ row. value_at row by.column) value_cmp_total
-    go true = turned_round (on_total (λ row. value_at row by.column) value_cmp_total)
-
-all_tied : IsTotalOrder (λ (a b : List Value). Equal)
-all_tied = record { antisymm = λ x y. refl; trans = λ x y z xy yz. xy; congr = λ x y z tied. refl }
-
-row_total : (order : List OrderBy) → IsTotalOrder (row_cmp order)
-unfolding row_cmp
-row_total [] = all_tied
-row_total (by ∷ order) = then_total (column_total by) (row_total order)
 
 -- ---- the same rows
 
@@ -154,17 +132,13 @@ next_to order rows rise k d within =
 
 -- ---- rows that tie
 
-not_turned : (b : Bool) → not b ≡ true → b ≡ false
-not_turned true e = absurd cc
-not_turned false e = refl
-
 -- two rows that tie with one aren't behind each other
 tied_rows : (order : List OrderBy) (x a b : List Value) → ties (λ u v. is_lt (row_cmp order u v)) x a ≡ true → ties (λ u v. is_lt (row_cmp order u v)) x b ≡ true
     → is_gt (row_cmp order a b) ≡ false
 tied_rows order x a b with_a with_b =
     let one = and_parts (not (is_lt (row_cmp order x a))) (not (is_lt (row_cmp order a x))) with_a in
     let two = and_parts (not (is_lt (row_cmp order x b))) (not (is_lt (row_cmp order b x))) with_b in
-    upto (row_total order) a x b (sym (lt_is_gt order x a) ∙ not_turned _ one.0) (sym (lt_is_gt order b x) ∙ not_turned _ two.1)
+    upto (row_total order) a x b (sym (lt_is_gt order x a) ∙ not-true _ one.0) (sym (lt_is_gt order b x) ∙ not-true _ two.1)
 
 exchanged : (a b : Bool) (x y : List Value) (rest : List (List Value)) → (a ≡ true → b ≡ true → ⊥)
     → cond b (y ∷ cond a (x ∷ rest) rest) (cond a (x ∷ rest) rest) ≡ cond a (x ∷ cond b (y ∷ rest) rest) (cond b (y ∷ rest) rest)
@@ -237,10 +211,6 @@ unfolding answer
 select_says st s t there free =
     ap (λ (x : Step). x.reply) (about_done st s.table (λ u. select_refusals u.shape s) (λ u. selected_rows st u s) t there free) ∙ told_is t s
 
-map_same : {X Y : Type 0} (f g : X → Y) → ((x : X) → f x ≡ g x) → (xs : List X) → map f xs ≡ map g xs
-map_same f g same [] = refl
-map_same f g same (x ∷ xs) = rw (same x, map_same f g same xs) refl
-
 map_both : {X Y Z : Type 0} (f : Y → Z) (g : X → Y) (xs : List X) → map f (map g xs) ≡ map (λ x. f (g x)) xs
 map_both f g [] = refl
 map_both f g (x ∷ xs) = ap (λ us. f (g x) ∷ us) (map_both f g xs)
@@ -296,10 +266,10 @@ all_read d (x ∷ xs) f a reads =
     step : (i : ℕ) → a + 1 + i ≡ a + suc i
     step i = omega arith
 
-value_read : (row : List Value) (i : ℕ) → value_at row i ≡ get_or row i Null
-value_read [] i = refl
-value_read (v ∷ vs) zero = refl
-value_read (v ∷ vs) (suc i) = value_read vs i
+value_or_null : (row : List Value) (i : ℕ) → value_at row i ≡ get_or row i Null
+value_or_null [] i = refl
+value_or_null (v ∷ vs) zero = refl
+value_or_null (v ∷ vs) (suc i) = value_or_null vs i
 
 from_zero : (i : ℕ) → 0 + i ≡ i
 from_zero i = omega arith
@@ -318,7 +288,7 @@ whole_rows : (n : ℕ) (rows : List (List Value)) → AreWide n rows → map (va
 whole_rows n [] wide = refl
 whole_rows n (row ∷ rows) wide =
     let one : values_at (range_with_len 0 n) row ≡ row =
-    ap (λ k. map (value_at row) (range_with_len 0 k)) (sym wide.0) ∙ all_read Null row (value_at row) 0 (λ i within. ap (value_at row) (from_zero i) ∙ value_read row i) in
+    ap (λ k. map (value_at row) (range_with_len 0 k)) (sym wide.0) ∙ all_read Null row (value_at row) 0 (λ i within. ap (value_at row) (from_zero i) ∙ value_or_null row i) in
     rw (one, whole_rows n rows wide.1) refl
 
 sorted_wide : (n : ℕ) (order : List OrderBy) (rows : List (List Value)) → AreWide n rows → AreWide n (sorted_by order rows)

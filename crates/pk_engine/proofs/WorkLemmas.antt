@@ -1,5 +1,5 @@
 -- The work of a statement over a table: it has changed nothing before.
-use Rattle.std.proofs.Common.{◌≡◌, ℕ, List, Result, Ok, Err, IfOk, length, Option, None, sym, ap, subst, ◌∙◌}
+use Rattle.std.proofs.Common.{◌≡◌, ℕ, List, Result, IfOk, length, Option, None, sym, ap, subst, ◌∙◌}
 use Rattle.pk_values.specs.declared.memory.Memory.{Memory}
 use Rattle.pk_values.specs.declared.placed.Placed.{Placed}
 use Rattle.pk_values.specs.declared.refusal.Refusal.{Refusal}
@@ -18,18 +18,20 @@ use Rattle.pk_exec.specs.Edits.{updated, deleted, taken}
 use Rattle.pk_exec.specs.Selecting.{selected}
 use Rattle.pk_exec.specs.Rows.{AscendFrom}
 use Rattle.pk_exec.specs.Entries.{Entry}
-use Rattle.pk_exec.specs.Works.{Edits, no_edits, entries_of, Covers, Fits, work_size, size_elsewhere}
+use Rattle.pk_exec.specs.Works.{Edits, no_edits, work_size, size_elsewhere}
+use Rattle.pk_exec.specs.Seen.{entries_of, Covers, Fits}
 use Rattle.pk_exec.specs.Refusals.{work_update_refusals, work_delete_refusals}
 use Rattle.pk_exec.proofs.FreshLemmas.{fresh_entries, fresh_covers, fresh_fits, fresh_elsewhere, fresh_size}
 use Rattle.pk_engine.specs.declared.outcome.Outcome.{Outcome}
 use Rattle.pk_engine.specs.declared.outcome.Outcome.TheVariants.{Done}
-use Rattle.pk_engine.specs.declared.table.TheConstants.{TABLE}
+use Rattle.pk_engine.specs.declared.table.editing.TheConstants.{TABLE}
 use Rattle.pk_engine.specs.Base.{Table}
 use Rattle.pk_engine.specs.Edits.{entries_in, changes_in, update_entries, delete_entries}
 use Rattle.pk_engine.specs.Select.{found}
 use Rattle.pk_engine.specs.Outcome.{IsDone}
 use Rattle.pk_engine.specs.Valid.{IsValidTable}
 use Rattle.pk_engine.proofs.RowLemmas.{rise_ascends}
+use Rattle.pk_engine.proofs.StandsLemmas.{if_ok}
 
 pub valid_ascends : (t : Table) → IsValidTable t → AscendFrom 1 t.rows
 valid_ascends t valid = rise_ascends 1 t.next t.rows valid.ids
@@ -57,10 +59,6 @@ settled : (rs : List (Option Refusal)) (n : ℕ) (es : List Entry) (t : Table) (
     → first_some rs ≡ None → m ≡ n → seen ≡ es → o ≡ Done m (changes_in t seen) → IsDone rs n (changes_in t es) o
 settled rs n es t m seen o free counted same is =
     subst (IsDone rs n (changes_in t es)) (sym is) (free, counted, ap (changes_in t) same)
-
-if_ok : {A E : Type 0} {P Q : A → Type 0} (r : Result A E) → IfOk r P → ((x : A) → P x → Q x) → IfOk r Q
-if_ok (Ok x) holds more = more x holds
-if_ok (Err e) holds more = tt
 
 -- what is seen after a statement that isn't refused is what it makes of the rows
 pub work_settled : (rs : List (Option Refusal)) (n : ℕ) (es : List Entry) (t : Table) (m : ℕ) (seen : List Entry) (r : Result Outcome Memory)

@@ -1,12 +1,6 @@
 -- Rows in the order of their ids.
 use Rattle.std.specs.Prelude.{ℕ, ◌≤◌, ◌+◌, List, [], ◌∷◌}
-use Rattle.std.specs.List.Sorted.{IsStrictlySortedBy}
-use Rattle.std.specs.Ordering.{nat_cmp}
 use Rattle.pk_values.specs.declared.placed.Placed.{Placed}
-
--- each id is above those before it
-abbrev pub IdsAscend : List ℕ → Type 0
-IdsAscend ids = IsStrictlySortedBy nat_cmp ids
 
 -- each id is above those before it, none is below the least, and all are below the next
 abbrev pub IdsRise : ℕ → List Placed → ℕ → Type 0

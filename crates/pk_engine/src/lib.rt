@@ -3,6 +3,7 @@
 //! `StandsFor`, and see nothing else of it.
 #![tactic(auto)]
 
+mod answered;
 mod engine;
 mod keys;
 mod laws;
@@ -10,6 +11,7 @@ mod outcome;
 mod rows;
 mod table;
 
+pub use answered::is_answered;
 pub use engine::Engine;
 pub use laws::{
     answers_keep_bases_valid, definitions_at_their_edges, deletes_leave_the_rest,

@@ -5,7 +5,7 @@ ghost use Rattle.std.specs.List.{list_any};
 ghost use Rattle.pk_values.specs.declared.placed.Placed.{Placed};
 ghost use Rattle.pk_exec.specs.Rows.{AscendFrom};
 ghost use Rattle.pk_engine.specs.Base.{has_id, replaced_by};
-ghost use Rattle.pk_engine.specs.Rows.{IdsAscend};
+ghost use Rattle.pk_guard.specs.Changed.{IdsAscend};
 
 use pk_values::Placed;
 

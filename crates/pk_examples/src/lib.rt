@@ -11,6 +11,3 @@ mod refuting;
 
 pub use laws::two_rows_are_admitted;
 pub use refuting::{TwoRows, two_rows};
-
-#[cfg(test)]
-mod tests;

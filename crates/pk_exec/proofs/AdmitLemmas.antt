@@ -24,7 +24,7 @@ use Rattle.pk_exec.specs.Bases.{edit_by, edits_in, IsRowAdmitted}
 use Rattle.pk_exec.specs.Edits.{takes}
 use Rattle.pk_exec.specs.Fates.{CanJudge, CanSet, CanChange, fate_of, put_fate, taken_fate}
 use Rattle.pk_exec.specs.Drafts.{change_fits, sets_fit, base_by, base_by_fate, changed_base, changed_edits, changed_added, added_by_fate}
-use Rattle.pk_exec.specs.Works.{IsAdmitted}
+use Rattle.pk_exec.specs.Seen.{IsAdmitted}
 
 -- ---- what may be done
 

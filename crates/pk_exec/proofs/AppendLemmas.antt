@@ -1,5 +1,5 @@
 -- New rows put behind all others of their table.
-use Rattle.std.proofs.Common.{◌≡◌, ℕ, ◌+◌, ◌≤◌, ◌<◌, Bool, true, false, not, ◌==◌, List, [], ◌∷◌, ◌++◌, All, length, suc, nat_le, if◌then◌else◌, Some, None, Ok, Err, get_or, set, refl, ap, sym, ◌∙◌, subst, arith, append_assoc, length-append}
+use Rattle.std.proofs.Common.{◌≡◌, ℕ, ◌+◌, ◌≤◌, ◌<◌, Bool, true, false, not, ◌==◌, List, [], ◌∷◌, ◌++◌, All, length, nat_le, if◌then◌else◌, Some, None, Ok, Err, get_or, set, refl, ap, sym, ◌∙◌, subst, arith, append_assoc, length-append}
 use Rattle.std.specs.Prelude.{Result, OnOk, OnErr}
 use Rattle.std.specs.List.{find, flat_map}
 use Rattle.std.specs.Option.{unwrap_or}
@@ -16,10 +16,11 @@ use Rattle.pk_schema.specs.Admits.{Admits}
 use Rattle.pk_exec.specs.Edits.{inserted_into}
 use Rattle.pk_exec.specs.Entries.{Entry, New}
 use Rattle.pk_exec.specs.Bases.{base_rows, base_entry}
-use Rattle.pk_exec.specs.Works.{Edits, TableEdits, IsWork, edits_at, edit_count, entries_of, new_entries, is_for, place_in, stands_at, put_table, with_table, add_rows, size_elsewhere, work_size, Covers, Fits, SameElsewhere, AreAdmitted, edit_ids, is_part}
+use Rattle.pk_exec.specs.Works.{Edits, TableEdits, IsWork, edits_at, edit_count, is_for, place_in, stands_at, put_table, with_table, add_rows, size_elsewhere, work_size, SameElsewhere, edit_ids}
+use Rattle.pk_exec.specs.Seen.{entries_of, new_entries, Covers, Fits, AreAdmitted, is_part}
 use Rattle.pk_exec.specs.Rows.{ids_of}
 use Rattle.pk_exec.proofs.WorkLemmas.{put_is_work, size_parts, edits_put, same_elsewhere, above_all, all_above, tables_of}
-use Rattle.pk_exec.proofs.PlaceLemmas.{put_set, stands_is}
+use Rattle.pk_exec.proofs.PlaceLemmas.{put_set, stands_is, one_more}
 
 -- the edits that stand at the place are the table's
 pub edits_there : (w : Edits) (items : List TableEdits) (k place : ℕ) (b : Bool) (d : TableEdits) → record { tables = items } ≡ w
@@ -72,9 +73,6 @@ unfolding IsStrictlySortedBy
 absent_in k [] rise at = refl
 absent_in k (t ∷ ts) rise at = step (nat_le k t.table) refl at (absent_in k ts rise.1)
   where
-    one_more : (n : ℕ) → 1 + n ≡ suc n
-    one_more n = omega arith
-
     by_same : (b : Bool) → (t.table == k) ≡ b → k ≤ t.table → b ≡ false → (if b then Some t else find (is_for k) ts) ≡ None
     by_same true same le at = absurd (cc)
     by_same false differ le at =

@@ -7,7 +7,7 @@ use Rattle.pk_exec.specs.declared.base.BaseRow.{BaseRow}
 use Rattle.pk_exec.specs.declared.table_edits.EditedRow.{EditedRow}
 use Rattle.pk_exec.specs.Bases.{edits_behind, base_at, base_rows}
 use Rattle.pk_exec.specs.Rows.{ids_of, rows_above, row_of}
-use Rattle.pk_exec.specs.Works.{is_part}
+use Rattle.pk_exec.specs.Seen.{is_part}
 use Rattle.pk_exec.proofs.RowsLemmas.{IsNext}
 
 -- the rows that are left, as the edits leave them, begin with the one that is met

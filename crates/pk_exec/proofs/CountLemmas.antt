@@ -1,9 +1,8 @@
 -- What the edits of a table change of the base.
-use Rattle.std.proofs.Common.{◌≡◌, ℕ, ◌+◌, ◌<◌, ◌≤◌, Bool, true, false, not, ◌==◌, ◌&&◌, ◌||◌, List, [], ◌∷◌, ◌++◌, length, map, Option, Some, None, is_some, refl, ap, sym, ◌∙◌, subst, arith, append_assoc, append-nil, suc, if◌then◌else◌}
+use Rattle.std.proofs.Common.{◌≡◌, ℕ, ◌+◌, ◌<◌, ◌≤◌, Bool, true, false, not, ◌==◌, ◌&&◌, ◌||◌, List, [], ◌∷◌, ◌++◌, length, map, Option, Some, None, is_some, refl, ap, sym, ◌∙◌, arith, append-nil, suc, if◌then◌else◌}
 use Rattle.std.specs.List.{filter, filter_map, flat_map, cons_option, list_any}
-use Rattle.std.proofs.lemmas.Bool.{eqb-true, eqb-false, eq-eqb, ne_eqb}
+use Rattle.std.proofs.lemmas.Bool.{eqb-true, eq-eqb, ne_eqb}
 use Rattle.pk_values.specs.declared.placed.Placed.{Placed}
-use Rattle.pk_values.specs.declared.changes.Changes.{Changes}
 use Rattle.pk_values.specs.declared.value.Value.{Value}
 use Rattle.pk_exec.specs.declared.base.BaseRow.{BaseRow}
 use Rattle.pk_exec.specs.declared.change.Change.{Change}
@@ -11,14 +10,17 @@ use Rattle.pk_exec.specs.declared.change.Fate.{Fate}
 use Rattle.pk_exec.specs.declared.change.Fate.TheVariants.{Left, Put, Gone, Long}
 use Rattle.pk_exec.specs.declared.table_edits.EditedRow.{EditedRow}
 use Rattle.pk_exec.specs.Rows.{AscendFrom, ids_of}
-use Rattle.pk_exec.specs.Entries.{Entry, Kept, Touched, New}
-use Rattle.pk_exec.specs.Bases.{base_entry, seen_entry, base_by, base_at, base_rows, edit_for, edits_behind, edit_by, edits_in}
+use Rattle.pk_exec.specs.Bases.{base_entry, seen_entry, base_by, base_rows, edit_for, edits_behind, edit_by, edits_in}
 use Rattle.pk_exec.specs.Changes.{is_entry_of, gone_ids, touched_row, touched_rows, new_row, added_rows, placed_from, changed_count, changes_of}
 use Rattle.pk_exec.specs.Fates.{fate_of}
 use Rattle.pk_exec.specs.Drafts as drafts
 use Rattle.pk_exec.specs.Drafts.{base_by_fate, changed_base, changed_edits}
-use Rattle.pk_exec.specs.Works.{edit_ids, is_part, new_entries, gone_by, gone_edits, put_by, put_edits}
+use Rattle.pk_exec.specs.Works.{edit_ids}
+use Rattle.pk_exec.specs.Seen.{is_part, new_entries}
+use Rattle.pk_exec.specs.Told.{gone_by, gone_edits, put_by, put_edits}
 use Rattle.pk_exec.proofs.DraftLemmas.{changed_id, part_skip}
+use Rattle.std.proofs.Math.Bool.{and-false, and-true, or-false}
+use Rattle.std.proofs.lemmas.List.Folds.{list_any-append}
 
 -- ---- rows of the base beside what edits leave of them
 
@@ -198,47 +200,27 @@ entries_added bs added =
 abbrev is_there : ℕ → BaseRow → Bool
 is_there id b = (b.id == id) && is_some b.row
 
-any_append : {X : Type 0} (p : X → Bool) (xs ys : List X) → list_any p (xs ++ ys) ≡ (list_any p xs || list_any p ys)
-any_append p [] ys = refl
-any_append p (x ∷ xs) ys = by_one (p x) (any_append p xs ys)
-  where
-    by_one : (b : Bool) → list_any p (xs ++ ys) ≡ (list_any p xs || list_any p ys) → (b || list_any p (xs ++ ys)) ≡ ((b || list_any p xs) || list_any p ys)
-    by_one true same = refl
-    by_one false same = same
-
-or_false : (b : Bool) → (b || false) ≡ b
-or_false true = refl
-or_false false = refl
-
-and_true : (b : Bool) → (b && true) ≡ b
-and_true true = refl
-and_true false = refl
-
-and_false : (b : Bool) → (b && false) ≡ false
-and_false true = refl
-and_false false = refl
-
 new_has_none : (id : ℕ) (added : List (List Value)) → list_any (is_entry_of id) (new_entries added) ≡ false
 new_has_none id [] = refl
 new_has_none id (row ∷ rows) = new_has_none id rows
 
 seen_has : (id i : ℕ) (edited : Bool) (o : Option (List Value)) → list_any (is_entry_of id) (seen_entry i edited o) ≡ ((i == id) && is_some o)
-seen_has id i edited None = sym (and_false (i == id))
-seen_has id i true (Some row) = or_false (i == id) ∙ sym (and_true (i == id))
-seen_has id i false (Some row) = or_false (i == id) ∙ sym (and_true (i == id))
+seen_has id i edited None = sym (and-false (i == id))
+seen_has id i true (Some row) = or-false (i == id) ∙ sym (and-true (i == id))
+seen_has id i false (Some row) = or-false (i == id) ∙ sym (and-true (i == id))
 
 bases_have : (id : ℕ) (bs : List BaseRow) → list_any (is_entry_of id) (flat_map base_entry bs) ≡ list_any (is_there id) bs
 bases_have id [] = refl
 bases_have id (b ∷ bs) =
-    any_append (is_entry_of id) (base_entry b) (flat_map base_entry bs)
+    list_any-append (is_entry_of id) (base_entry b) (flat_map base_entry bs)
     ∙ ap (λ (t : Bool). t || list_any (is_entry_of id) (flat_map base_entry bs)) (seen_has id b.id b.edited b.row)
     ∙ ap (λ (t : Bool). is_there id b || t) (bases_have id bs)
 
 entries_have : (id : ℕ) (bs : List BaseRow) (added : List (List Value)) → list_any (is_entry_of id) (flat_map base_entry bs ++ new_entries added) ≡ list_any (is_there id) bs
 entries_have id bs added =
-    any_append (is_entry_of id) (flat_map base_entry bs) (new_entries added)
+    list_any-append (is_entry_of id) (flat_map base_entry bs) (new_entries added)
     ∙ ap (λ (t : Bool). list_any (is_entry_of id) (flat_map base_entry bs) || t) (new_has_none id added)
-    ∙ or_false (list_any (is_entry_of id) (flat_map base_entry bs))
+    ∙ or-false (list_any (is_entry_of id) (flat_map base_entry bs))
     ∙ bases_have id bs
 
 -- a test of the rows of the base, by another that is the same on their ids
@@ -277,7 +259,7 @@ bases_gone (b ∷ bs) (p ∷ ps) least up all =
     let here : list_any (is_there p.id) (b ∷ bs) ≡ is_some b.row =
     ap (λ (t : Bool). (t && is_some b.row) || list_any (is_there p.id) bs) (eq-eqb b.id p.id all.0)
     ∙ ap (λ (t : Bool). is_some b.row || t) (none_there bs ps (p.id + 1) p.id (omega arith) up.1 all.2)
-    ∙ or_false (is_some b.row) in
+    ∙ or-false (is_some b.row) in
     let later : filter (λ id. not (list_any (is_there id) (b ∷ bs))) (ids_of ps) ≡ gone_edits (edits_in bs) =
     kept_same (λ id. not (list_any (is_there id) (b ∷ bs))) (λ id. not (list_any (is_there id) bs)) ps (p.id + 1) up.1
     (λ id above. ap (λ (t : Bool). not ((t && is_some b.row) || list_any (is_there id) bs)) (ne_eqb b.id id (λ e. omega (arith, e, all.0, above))))

@@ -24,7 +24,8 @@ use Rattle.pk_exec.specs.Answers.{IsCause}
 use Rattle.pk_exec.specs.Edits.{takes}
 use Rattle.pk_exec.specs.Fates.{fate_of, fate_refusal, taken_fate}
 use Rattle.pk_exec.specs.Drafts.{base_by, base_by_fate, changed_base, changed_edits, changed_added, base_taken, base_refusal, row_taken, row_refusal, taken_by, IsDraft, Adds, IsRefusalOf, IsBaseDrafted, BaseDrafts}
-use Rattle.pk_exec.specs.Works.{edit_ids, is_part}
+use Rattle.pk_exec.specs.Works.{edit_ids}
+use Rattle.pk_exec.specs.Seen.{is_part}
 
 -- ---- what the rows of the base make of it
 

@@ -1,14 +1,12 @@
 -- What a change makes of what a transaction sees.
-use Rattle.std.proofs.Common.{◌≡◌, ℕ, ◌+◌, ◌<◌, ◌≤◌, Bool, true, false, not, ◌==◌, List, [], ◌∷◌, ◌++◌, length, map, Option, Some, None, nat_le, refl, ap, sym, ◌∙◌, subst, arith, append_assoc, append-nil, length-append, if◌then◌else◌}
-use Rattle.std.specs.Prelude.{sum_by}
-use Rattle.std.specs.List.{filter, filter_map, flat_map, cons_option, list_any}
-use Rattle.std.proofs.lemmas.List.{map-append, length-map}
+use Rattle.std.proofs.Common.{◌≡◌, ℕ, ◌+◌, Bool, true, false, not, List, [], ◌∷◌, ◌++◌, length, map, Option, Some, None, nat_le, refl, ap, sym, ◌∙◌, arith, length-append, if◌then◌else◌}
+use Rattle.std.specs.List.{filter, flat_map}
+use Rattle.std.proofs.lemmas.List.{map-append}
 use Rattle.std.proofs.lemmas.List.Sums.{sum_by-cons}
-use Rattle.pk_values.specs.declared.placed.Placed.{Placed}
 use Rattle.pk_values.specs.declared.value.Value.{Value}
 use Rattle.pk_values.specs.declared.refusal.Refusal.{Refusal}
 use Rattle.pk_values.specs.declared.refusal.Refusal.TheVariants.{LongRow}
-use Rattle.pk_values.specs.Refusals.{first_some, or_else, first_by}
+use Rattle.pk_values.specs.Refusals.{or_else, first_by}
 use Rattle.pk_values.specs.Records.{row_record}
 use Rattle.pk_logic.specs.declared.condition.Cond.{Cond}
 use Rattle.pk_bind.specs.declared.edit.Edit.{Edit}
@@ -20,12 +18,13 @@ use Rattle.pk_exec.specs.declared.change.Change.{Change}
 use Rattle.pk_exec.specs.declared.change.Fate.{Fate}
 use Rattle.pk_exec.specs.declared.change.Fate.TheVariants.{Left, Put, Gone, Long}
 use Rattle.pk_exec.specs.Entries.{Entry, Kept, Touched, New, row_in, with_row}
-use Rattle.pk_exec.specs.Bases.{base_entry, seen_entry, base_rows}
+use Rattle.pk_exec.specs.Bases.{base_entry, seen_entry}
 use Rattle.pk_exec.specs.Edits.{takes, taken, updated, updated_entry, deleted}
 use Rattle.pk_exec.specs.Fates.{fate_of, fate_refusal, taken_fate, put_fate, edit_change, removal}
 use Rattle.pk_exec.specs.Drafts.{base_by, base_by_fate, changed_base, changed_added, base_taken, base_refusal, added_taken, added_refusal, added_by_fate, row_taken, row_refusal, taken_by}
 use Rattle.pk_exec.specs.Refusals.{long_update}
-use Rattle.pk_exec.specs.Works.{new_entries}
+use Rattle.pk_exec.specs.Seen.{new_entries}
+use Rattle.pk_values.proofs.RefusalLemmas.{neither}
 
 -- ---- UPDATE, one row
 
@@ -107,10 +106,6 @@ base_updated e b (Some row) is none =
 
 -- ---- refusals one behind the other
 
-pub else_both : (a b : Option Refusal) → or_else a b ≡ None → (a ≡ None) × (b ≡ None)
-else_both None b none = (refl, none)
-else_both (Some r) b none = absurd (cc)
-
 else_assoc : (a b d : Option Refusal) → or_else (or_else a b) d ≡ or_else a (or_else b d)
 else_assoc None b d = refl
 else_assoc (Some r) b d = refl
@@ -136,7 +131,7 @@ bases_updated : (e : Edit) (bs : List BaseRow) → base_refusal (edit_change e) 
     → flat_map base_entry (map (changed_base (edit_change e)) bs) ≡ updated e (flat_map base_entry bs)
 bases_updated e [] none = refl
 bases_updated e (b ∷ bs) none =
-    let w = else_both (row_refusal (edit_change e) b.row) (base_refusal (edit_change e) bs) none in
+    let w = neither (row_refusal (edit_change e) b.row) (base_refusal (edit_change e) bs) none in
     ap (λ (xs : List Entry). xs ++ flat_map base_entry (map (changed_base (edit_change e)) bs)) (base_updated e b b.row refl w.0)
     ∙ ap (λ (xs : List Entry). updated e (base_entry b) ++ xs) (bases_updated e bs w.1)
     ∙ sym (map-append (updated_entry e) (base_entry b) (flat_map base_entry bs))
@@ -145,7 +140,7 @@ added_updated : (e : Edit) (added : List (List Value)) → added_refusal (edit_c
     → new_entries (changed_added (edit_change e) added) ≡ updated e (new_entries added)
 added_updated e [] none = refl
 added_updated e (row ∷ rows) none =
-    let w = else_both (fate_refusal (fate_of (edit_change e) row)) (added_refusal (edit_change e) rows) none in
+    let w = neither (fate_refusal (fate_of (edit_change e) row)) (added_refusal (edit_change e) rows) none in
     ap (λ (f : Fate). new_entries (added_by_fate f ++ changed_added (edit_change e) rows)) (fate_puts e row w.0)
     ∙ by_taken (takes e.cond row) refl (added_updated e rows w.1)
   where

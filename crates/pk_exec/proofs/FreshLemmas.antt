@@ -7,7 +7,8 @@ use Rattle.pk_schema.specs.Shapes.{Shape}
 use Rattle.pk_schema.specs.Admits.{Admits}
 use Rattle.pk_exec.specs.Bases.{base_rows, base_entry}
 use Rattle.pk_exec.specs.Entries.{Entry, kept_entry, kept_entries}
-use Rattle.pk_exec.specs.Works.{no_edits, edits_at, entries_of, size_elsewhere, work_size, Covers, Fits, IsAdmitted}
+use Rattle.pk_exec.specs.Works.{no_edits, edits_at, size_elsewhere, work_size}
+use Rattle.pk_exec.specs.Seen.{entries_of, Covers, Fits, IsAdmitted}
 
 fresh_base : (rows : List Placed) → flat_map base_entry (base_rows [] rows) ≡ kept_entries rows
 unfolding base_rows

@@ -1,5 +1,5 @@
 -- What an INSERT answers.
-use Rattle.std.proofs.Common.{◌≡◌, ℕ, ◌+◌, List, [], ◌∷◌, ◌++◌, length, map, Option, Some, None, Ok, Err, refl, ap, sym, ◌∙◌}
+use Rattle.std.proofs.Common.{◌≡◌, ℕ, ◌+◌, List, [], ◌∷◌, ◌++◌, length, Option, None, Ok, Err, ◌∙◌}
 use Rattle.std.specs.Prelude.{Result, OnOk}
 use Rattle.std.proofs.lemmas.List.{length-map}
 use Rattle.pk_values.specs.declared.value.Value.{Value}
@@ -13,7 +13,7 @@ use Rattle.pk_exec.specs.declared.insert_err.InsertErr.TheVariants as causes
 use Rattle.pk_exec.specs.Answers.{InsertAnswers, IsInsertCause}
 use Rattle.pk_exec.specs.Refusals.{many_changes}
 use Rattle.pk_exec.specs.Works.{Edits, edits_at, with_table, add_rows}
-use Rattle.pk_exec.proofs.StatementLemmas.{first_behind}
+use Rattle.pk_values.proofs.RefusalLemmas.{first_behind}
 
 -- as many rows as tuples
 pub rows_counted : (columns : List ColumnDecl) (i : Insert) → length (new_rows columns i) ≡ length i.rows

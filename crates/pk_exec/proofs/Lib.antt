@@ -10,6 +10,7 @@ pub mod FreshLemmas
 pub mod InsertLemmas
 pub mod ListLemmas
 pub mod OrderLemmas
+pub mod PartLemmas
 pub mod PlaceLemmas
 pub mod RowLemmas
 pub mod RowsLemmas

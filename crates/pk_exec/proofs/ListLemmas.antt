@@ -1,16 +1,14 @@
 -- Places in rows whose ids ascend.
-use Rattle.std.proofs.Common.{◌≡◌, ℕ, zero, suc, ◌+◌, ◌≤◌, ◌<◌, Bool, true, false, ◌==◌, ◌||◌, List, [], ◌∷◌, All, Option, Some, None, length, get_or, nat_le, nat_lt, IsTrue, refl, ap, sym, ◌∙◌, subst, arith, if◌then◌else◌}
-use Rattle.std.specs.List.{AllWithin, list_any, find}
+use Rattle.std.proofs.Common.{◌≡◌, ℕ, zero, suc, ◌+◌, ◌≤◌, ◌<◌, Bool, true, false, ◌==◌, ◌||◌, List, [], ◌∷◌, Some, None, length, get_or, nat_le, nat_lt, refl, ap, sym, ◌∙◌, subst, arith, if◌then◌else◌}
+use Rattle.std.specs.List.{find}
 use Rattle.std.specs.List.Sorted.{IsPartitionPoint, IsPartitionedBy}
 use Rattle.std.specs.Option.{option_map}
-use Rattle.std.proofs.lemmas.Bool.{ltb-true, ltb-false, lt-ltb, le-ltb, leb-true, leb-false, le-leb, lt-leb, eq-eqb, ne_eqb, eqb-false}
-use Rattle.std.proofs.lemmas.List.Sorted.{IsPartitionedBy-leb, IsPartitionedBy-ltb}
+use Rattle.std.proofs.lemmas.Bool.{ltb-true, ltb-false, lt-ltb, le-ltb, leb-true, leb-false, le-leb, ne_eqb, eqb-false}
 use Rattle.pk_values.specs.declared.placed.Placed.{Placed}
-use Rattle.pk_values.specs.declared.value.Value.{Value}
-use Rattle.pk_exec.specs.Rows.{AscendFrom, rows_above, first_id, next_id, is_of, has_id, row_of}
+use Rattle.pk_exec.specs.Rows.{AscendFrom, rows_above, next_id, is_of, has_id, row_of}
 
 -- the ids rise along the rows
-rise_at : (least : ℕ) (ps : List Placed) (j : ℕ) (d : Placed) → AscendFrom least ps → j < length ps → least ≤ (get_or ps j d).id
+pub rise_at : (least : ℕ) (ps : List Placed) (j : ℕ) (d : Placed) → AscendFrom least ps → j < length ps → least ≤ (get_or ps j d).id
 rise_at least [] j d up within = absurd (omega (arith, within))
 rise_at least (p ∷ ps) zero d up within = up.0
 rise_at least (p ∷ ps) (suc j) d up within = omega (arith, up.0, rise_at (p.id + 1) ps j d up.1 (omega (arith, within)))

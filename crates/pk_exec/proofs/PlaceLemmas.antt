@@ -1,11 +1,10 @@
 -- Where the edits of a table are put.
-use Rattle.std.proofs.Common.{◌≡◌, ℕ, ◌+◌, ◌≤◌, ◌<◌, Bool, true, false, not, ◌==◌, List, [], ◌∷◌, ◌++◌, length, Option, Some, None, nat_le, nat_lt, slice_get, get_or, set, take, drop, suc, refl, ap, sym, ◌∙◌, subst, arith, if◌then◌else◌}
+use Rattle.std.proofs.Common.{◌≡◌, ℕ, ◌+◌, ◌≤◌, ◌<◌, Bool, true, false, not, ◌==◌, List, [], ◌∷◌, length, Option, Some, None, nat_le, nat_lt, slice_get, get_or, set, suc, refl, ap, sym, ◌∙◌, subst, arith, if◌then◌else◌}
 use Rattle.std.specs.Prelude.{insert}
-use Rattle.std.specs.List.{find, position, position_or_len, prefix_len}
+use Rattle.std.specs.List.{find, position, position_or_len}
 use Rattle.std.specs.Option.{option_map_or}
 use Rattle.std.proofs.lemmas.List.Sums.{prefix_len-le-length}
 use Rattle.std.proofs.lemmas.Bool.{ltb-false, leb-false, eqb-true, ne_eqb}
-use Rattle.std.proofs.lemmas.Grind.{common_steps}
 use Rattle.std.proofs.lemmas.Option.{slice_get_within}
 use Rattle.pk_exec.specs.Works.{Edits, TableEdits, is_for, put_table, place_in, stands_at}
 
@@ -24,7 +23,7 @@ place_none p xs is = by_order (nat_lt (position_or_len p xs) (length xs)) refl i
     by_order true less is = absurd (cc)
     by_order false more is = omega (arith, ltb-false _ _ more, prefix_len-le-length (λ x. not (p x)) xs)
 
-one_more : (n : ℕ) → 1 + n ≡ suc n
+pub one_more : (n : ℕ) → 1 + n ≡ suc n
 one_more n = omega arith
 
 -- the edits of the table stand at the place

@@ -17,7 +17,8 @@ use Rattle.pk_exec.specs.Selecting.{values_at, shown, selected}
 use Rattle.pk_bind.specs.declared.selection.Selection.{Selection}
 use Rattle.pk_parse.specs.declared.declaration.ColumnDecl.{ColumnDecl}
 use Rattle.pk_parse.specs.Declarations.{names_of}
-use Rattle.pk_exec.specs.Works.{Edits, edits_at, entries_of, new_entries}
+use Rattle.pk_exec.specs.Works.{Edits, edits_at}
+use Rattle.pk_exec.specs.Seen.{entries_of, new_entries}
 
 one_seen : (id : ℕ) (edited : Bool) (o : Option (List Value)) (rest : List (List Value)) → map row_in (seen_entry id edited o) ++ rest ≡ cons_option o rest
 one_seen id edited None rest = refl

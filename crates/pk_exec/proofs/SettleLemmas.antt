@@ -8,7 +8,8 @@ use Rattle.pk_exec.specs.declared.draft.Draft.{Draft}
 use Rattle.pk_exec.specs.declared.exec_err.ExecErr.{ExecErr}
 use Rattle.pk_exec.specs.Rows.{ids_of}
 use Rattle.pk_exec.specs.Settling.{IsSettled, table_of}
-use Rattle.pk_exec.specs.Works.{Edits, TableEdits, edits_at, edit_ids, is_part, with_table, Covers, Fits, SameElsewhere, IsAdmitted, AreAdmitted}
+use Rattle.pk_exec.specs.Works.{Edits, TableEdits, edits_at, edit_ids, with_table, SameElsewhere}
+use Rattle.pk_exec.specs.Seen.{is_part, Covers, Fits, IsAdmitted, AreAdmitted}
 use Rattle.pk_exec.proofs.WorkLemmas.{edits_put, same_elsewhere}
 
 -- the edits at the table, where the draft is settled

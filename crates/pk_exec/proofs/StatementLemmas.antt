@@ -1,5 +1,5 @@
 -- What UPDATE and DELETE answer and leave, from what a change does.
-use Rattle.std.proofs.Common.{◌≡◌, ℕ, ◌+◌, List, [], ◌∷◌, ◌++◌, length, map, Option, Some, None, Ok, Err, refl, ap, sym, ◌∙◌, subst, arith}
+use Rattle.std.proofs.Common.{◌≡◌, ℕ, ◌+◌, List, [], ◌∷◌, ◌++◌, length, map, Option, Some, None, Ok, Err, refl, ap, sym, ◌∙◌}
 use Rattle.std.specs.Prelude.{Result, OnOk}
 use Rattle.std.specs.List.{flat_map}
 use Rattle.pk_values.specs.declared.placed.Placed.{Placed}
@@ -13,7 +13,6 @@ use Rattle.pk_exec.specs.declared.exec_err.ExecErr.{ExecErr}
 use Rattle.pk_exec.specs.declared.exec_err.ExecErr.TheVariants as exec_errs
 use Rattle.pk_exec.specs.Answers.{Answers, IsCause}
 use Rattle.pk_exec.specs.Rows.{AscendFrom}
-use Rattle.pk_exec.specs.Entries.{Entry}
 use Rattle.pk_exec.specs.Bases.{base_rows, base_entry}
 use Rattle.pk_exec.specs.Changes.{changed_count}
 use Rattle.pk_exec.specs.Edits.{taken, updated, deleted}
@@ -21,24 +20,14 @@ use Rattle.pk_exec.specs.Fates.{edit_change, removal}
 use Rattle.pk_exec.specs.Drafts.{changed_base, changed_edits, changed_added, base_refusal, added_refusal}
 use Rattle.pk_exec.specs.Refusals.{many_changes, long_update}
 use Rattle.pk_exec.specs.Settling.{changed_table, change_refusals, change_taken, settling_refusal, IsChanged}
-use Rattle.pk_exec.specs.Works.{Edits, TableEdits, edits_at, entries_of, new_entries, size_elsewhere, with_table}
+use Rattle.pk_exec.specs.Works.{Edits, TableEdits, edits_at, size_elsewhere, with_table}
+use Rattle.pk_exec.specs.Seen.{entries_of, new_entries}
 use Rattle.pk_exec.proofs.CountLemmas.{changed_bases, changed_counted}
 use Rattle.pk_exec.proofs.EntryLemmas.{entries_updated, entries_long, entries_taken, entries_deleted, removal_free_base, removal_free_added}
 use Rattle.pk_exec.proofs.WorkLemmas.{edits_put}
+use Rattle.pk_values.proofs.RefusalLemmas.{first_behind}
 
 -- ---- lists of refusals
-
--- where none of the first stands, those behind them decide
-pub first_behind : (xs ys : List (Option Refusal)) → first_some xs ≡ None → first_some (xs ++ ys) ≡ first_some ys
-first_behind [] ys none = refl
-first_behind (None ∷ xs) ys none = first_behind xs ys none
-first_behind (Some r ∷ xs) ys none = absurd (cc)
-
--- one of the first stands
-pub first_before : (xs ys : List (Option Refusal)) (r : Refusal) → first_some xs ≡ Some r → first_some (xs ++ ys) ≡ Some r
-first_before [] ys r some = absurd (cc)
-first_before (None ∷ xs) ys r some = first_before xs ys r some
-first_before (Some q ∷ xs) ys r some = some
 
 joined : (a b x y : Option Refusal) → (a ≡ None → b ≡ None → x ≡ y) → first_some (a ∷ b ∷ x ∷ []) ≡ first_some (or_else a b ∷ y ∷ [])
 joined None None x y same = ap (λ (o : Option Refusal). first_some (o ∷ [])) (same refl refl)

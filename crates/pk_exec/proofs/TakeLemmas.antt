@@ -19,7 +19,7 @@ use Rattle.pk_exec.specs.Bases.{IsRowAdmitted, base_at, base_rows, edits_behind,
 use Rattle.pk_exec.specs.Edits.{takes}
 use Rattle.pk_exec.specs.Fates.{CanJudge}
 use Rattle.pk_exec.specs.Reading.{kept, kept_rows, row_list, CanJudgeRow, CanTake}
-use Rattle.pk_exec.specs.Works.{IsAdmitted}
+use Rattle.pk_exec.specs.Seen.{IsAdmitted}
 use Rattle.pk_exec.specs.Views.{IsLeft}
 use Rattle.pk_exec.proofs.RowsLemmas.{next_row, no_row, from_start}
 use Rattle.pk_exec.proofs.BaseLemmas.{bases_left, bases_none, all_behind}

@@ -11,7 +11,9 @@ use Rattle.pk_exec.specs.declared.table_edits.EditedRow.{EditedRow}
 use Rattle.pk_exec.specs.Rows.{AscendFrom}
 use Rattle.pk_exec.specs.Bases.{IsRowAdmitted}
 use Rattle.pk_exec.specs.Changes.{changes_of, placed_from}
-use Rattle.pk_exec.specs.Works.{Edits, edits_at, entries_of, Covers, Fits, IsAdmitted, gone_edits, put_by, put_edits}
+use Rattle.pk_exec.specs.Works.{Edits, edits_at}
+use Rattle.pk_exec.specs.Seen.{entries_of, Covers, Fits, IsAdmitted}
+use Rattle.pk_exec.specs.Told.{gone_edits, put_by, put_edits}
 use Rattle.pk_exec.proofs.CountLemmas.{edits_change}
 
 -- what is told of the edits is what the entries change

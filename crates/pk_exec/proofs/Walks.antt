@@ -15,7 +15,8 @@ use Rattle.pk_exec.specs.declared.view.View.{Ghosts as ViewGhosts}
 use Rattle.pk_exec.specs.Rows.{AscendFrom, ids_of, rows_above, next_id, row_of, has_id}
 use Rattle.pk_exec.specs.Bases.{IsRowAdmitted, base_at, base_rows, edits_behind}
 use Rattle.pk_exec.specs.Drafts.{change_fits, changed_edits, base_refusal, base_taken, row_refusal, row_taken, IsDraft, IsBaseDrafted}
-use Rattle.pk_exec.specs.Works.{IsAdmitted, edit_ids, is_part}
+use Rattle.pk_exec.specs.Works.{edit_ids}
+use Rattle.pk_exec.specs.Seen.{IsAdmitted, is_part}
 use Rattle.pk_exec.specs.Views.{IsLeft}
 use Rattle.pk_exec.proofs.RowsLemmas.{IsNext, HasNext, next_row, no_row, from_start}
 use Rattle.pk_exec.proofs.BaseLemmas.{bases_left, bases_none, all_behind, front_part}

@@ -1,14 +1,15 @@
 -- The edits of tables in one work.
-use Rattle.std.proofs.Common.{◌≡◌, ◌≢◌, ℕ, ◌+◌, ◌≤◌, ◌<◌, Bool, true, false, not, ◌==◌, List, [], ◌∷◌, ◌++◌, length, map, Option, Some, None, nat_le, get_or, set, nat_lt, refl, ap, sym, ◌∙◌, subst, arith, if◌then◌else◌, inl, inr}
-use Rattle.std.specs.Prelude.{sum_by, insert}
-use Rattle.std.specs.List.{filter, find, position, AllByRecursion}
+use Rattle.std.proofs.Common.{◌≡◌, ℕ, ◌+◌, ◌≤◌, ◌<◌, Bool, true, false, not, ◌==◌, List, [], ◌∷◌, map, Option, Some, None, nat_le, refl, ap, sym, ◌∙◌, subst, arith, if◌then◌else◌}
+use Rattle.std.specs.Prelude.{sum_by}
+use Rattle.std.specs.List.{filter, find, AllByRecursion}
 use Rattle.std.specs.List.Sorted.{IsStrictlySortedBy}
 use Rattle.std.specs.Option.{unwrap_or}
 use Rattle.std.specs.Ordering.{nat_cmp}
-use Rattle.std.specs.declared.cmp.Ordering.TheVariants.{Less, Equal, Greater}
-use Rattle.std.proofs.lemmas.Bool.{eqb-true, eqb-false, eq-eqb, ne_eqb, leb-true, leb-false, le-leb, lt-leb, lt-ltb, ltb-true}
+use Rattle.std.specs.declared.cmp.Ordering.TheVariants.{Less}
+use Rattle.std.proofs.lemmas.Bool.{eqb-true, eqb-false, eq-eqb, ne_eqb, leb-true, leb-false, lt-ltb}
 use Rattle.std.proofs.lemmas.List.Sums.{sum_by-cons}
 use Rattle.pk_exec.specs.Works.{TableEdits, Edits, IsWork, no_edits, edits_at, edit_count, is_for, work_size, size_elsewhere, put_table, with_table, SameElsewhere}
+use Rattle.pk_values.proofs.NumberLemmas.{less_numbers}
 
 -- nothing edited is a work
 pub no_edits_is_work : IsWork no_edits
@@ -64,17 +65,6 @@ same_elsewhere t w k apart = ap (λ (o : Option TableEdits). unwrap_or o (record
 abbrev elsewhere_in : List TableEdits → ℕ → ℕ
 elsewhere_in ts table = sum_by edit_count (filter (λ t. not (is_for table t)) ts)
 
-pub less_from_cmp : (k n : ℕ) → nat_cmp k n ≡ Less → k < n
-less_from_cmp k n is = by_order (nat_lt k n) refl is
-  where
-    by_same : (b : Bool) → (if b then Equal else Greater) ≡ Less → k < n
-    by_same true is = absurd (cc)
-    by_same false is = absurd (cc)
-
-    by_order : (b : Bool) → nat_lt k n ≡ b → (if b then Less else (if k == n then Equal else Greater)) ≡ Less → k < n
-    by_order true less is = ltb-true k n less
-    by_order false less is = by_same (k == n) is
-
 pub cmp_from_less : (k n : ℕ) → k < n → nat_cmp k n ≡ Less
 cmp_from_less k n less = rw (lt-ltb k n less) refl
 
@@ -82,7 +72,7 @@ pub above_all : (k : ℕ) (ts : List TableEdits) → AllByRecursion (λ (n : ℕ
     → (filter (λ t. not (is_for k t)) ts ≡ ts) × (find (is_for k) ts ≡ None)
 above_all k [] all = (refl, refl)
 above_all k (t ∷ ts) all =
-    let apart = ne_eqb t.table k (λ e. omega (arith, e, less_from_cmp k t.table all.0)) in
+    let apart = ne_eqb t.table k (λ e. omega (arith, e, less_numbers k t.table all.0)) in
     let rest = above_all k ts all.1 in
     (rw apart (ap (λ (us : List TableEdits). t ∷ us) rest.0), rw apart rest.1)
 
@@ -121,7 +111,7 @@ all_put P t (u ∷ us) p ps = elim (nat_le t.table u.table) as (λ b. AllByRecur
 
 pub all_above : (k n : ℕ) (ks : List ℕ) → k < n → AllByRecursion (λ (m : ℕ). nat_cmp n m ≡ Less) ks → AllByRecursion (λ (m : ℕ). nat_cmp k m ≡ Less) ks
 all_above k n [] less all = tt
-all_above k n (m ∷ ks) less all = (cmp_from_less k m (omega (arith, less, less_from_cmp n m all.0)), all_above k n ks less all.1)
+all_above k n (m ∷ ks) less all = (cmp_from_less k m (omega (arith, less, less_numbers n m all.0)), all_above k n ks less all.1)
 
 rise_put : (t : TableEdits) (ts : List TableEdits) → IsStrictlySortedBy nat_cmp (tables_of ts) → IsStrictlySortedBy nat_cmp (tables_of (put_table t ts))
 unfolding IsStrictlySortedBy

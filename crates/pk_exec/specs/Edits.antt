@@ -1,25 +1,18 @@
 -- What INSERT, UPDATE and DELETE make of the rows that a transaction sees.
-use Rattle.std.specs.Prelude.{Bool, true, false, not, List, map, ◌++◌, Option, Some, None, if◌then◌else◌}
+use Rattle.std.specs.Prelude.{Bool, true, not, List, map, ◌++◌, Option, Some, None, if◌then◌else◌}
 use Rattle.std.specs.List.{filter}
 use Rattle.pk_values.specs.declared.value.Value.{Value}
 use Rattle.pk_logic.specs.declared.condition.Cond.{Cond}
-use Rattle.pk_logic.specs.declared.truth.Truth.{Truth}
-use Rattle.pk_logic.specs.declared.truth.Truth.TheVariants.{False, Unknown, True}
 use Rattle.pk_logic.specs.Conditions.{truth}
+use Rattle.pk_logic.specs.Laws.{is_true}
 use Rattle.pk_bind.specs.declared.edit.Edit.{Edit}
 use Rattle.pk_bind.specs.Fitting.{with_sets}
 use Rattle.pk_exec.specs.Entries.{Entry, New, row_in, with_row}
 
--- what is unknown isn't taken
-abbrev pub is_taken : Truth → Bool
-is_taken False = false
-is_taken Unknown = false
-is_taken True = true
-
--- the row meets the condition, where there is one
+-- the row meets the condition, where there is one; what is unknown isn't met
 abbrev pub takes : Option Cond → List Value → Bool
 takes None row = true
-takes (Some cond) row = is_taken (truth row cond)
+takes (Some cond) row = is_true (truth row cond)
 
 -- the entries whose rows meet the condition
 abbrev pub taken : Option Cond → List Entry → List Entry

@@ -5,11 +5,14 @@ pub mod Drafts
 pub mod Edits
 pub mod Entries
 pub mod Fates
+pub mod Laws
 pub mod ListViews
 pub mod Reading
 pub mod Refusals
 pub mod Rows
+pub mod Seen
 pub mod Selecting
 pub mod Settling
+pub mod Told
 pub mod Views
 pub mod Works

@@ -12,7 +12,8 @@ use Rattle.pk_bind.specs.Fitting.{cond_fits}
 use Rattle.pk_exec.specs.declared.table_edits.EditedRow.{EditedRow}
 use Rattle.pk_exec.specs.declared.view.View.{Ghosts as ViewGhosts}
 use Rattle.pk_exec.specs.Fates.{CanJudge}
-use Rattle.pk_exec.specs.Works.{Edits, edits_at, IsAdmitted}
+use Rattle.pk_exec.specs.Works.{Edits, edits_at}
+use Rattle.pk_exec.specs.Seen.{IsAdmitted}
 use Rattle.pk_exec.specs.Bases.{base_rows, rows_in}
 use Rattle.pk_exec.specs.Edits.{takes}
 

@@ -4,7 +4,7 @@ ghost use Rattle.pk_values.specs.declared.value.Value.{Value};
 ghost use Rattle.pk_schema.specs.Shapes.{Shape};
 ghost use Rattle.pk_exec.specs.Rows.{has_id, row_of};
 ghost use Rattle.pk_exec.specs.Bases.{edit_for, edits_behind, base_at, IsRowAdmitted};
-ghost use Rattle.pk_exec.specs.Works.{IsAdmitted};
+ghost use Rattle.pk_exec.specs.Seen.{IsAdmitted};
 ghost use Rattle.pk_exec.specs.Views.{IsLeft, HasStoreCause};
 
 use crate::table_edits::EditedRow;

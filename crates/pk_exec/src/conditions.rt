@@ -1,5 +1,6 @@
 ghost use Rattle.std.specs.Prelude.{◌≡◌};
-ghost use Rattle.pk_exec.specs.Edits.{is_taken, takes};
+ghost use Rattle.pk_logic.specs.Laws.{is_true};
+ghost use Rattle.pk_exec.specs.Edits.{takes};
 ghost use Rattle.pk_exec.specs.Fates.{CanJudge};
 
 use pk_logic::{Cond, Truth, judge};
@@ -17,7 +18,7 @@ pub(crate) fn takes(cond: &Option<Cond>, row: &Row) -> bool
 }
 
 fn is_true(truth: Truth) -> bool
-    ensures { result ≡ is_taken truth }
+    ensures { result ≡ is_true truth }
 {
     match truth {
         Truth::True => true,

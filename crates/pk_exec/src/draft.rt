@@ -6,7 +6,8 @@ ghost use Rattle.pk_exec.specs.Rows.{ids_of};
 ghost use Rattle.pk_exec.specs.Fates.{CanChange, fate_of, fate_refusal};
 ghost use Rattle.pk_exec.specs.Bases.{base_rows, edits_in};
 ghost use Rattle.pk_exec.specs.Drafts.{change_fits, row_taken, row_refusal, taken_by, added_by_fate, changed_edits, changed_added, added_taken, added_refusal, IsDraft, Adds, BaseDrafts, IsDrafted};
-ghost use Rattle.pk_exec.specs.Works.{IsAdmitted, edit_ids, is_part};
+ghost use Rattle.pk_exec.specs.Works.{edit_ids};
+ghost use Rattle.pk_exec.specs.Seen.{IsAdmitted, is_part};
 ghost use Rattle.pk_exec.specs.Views.{IsLeft, HasCause};
 
 use crate::base::{BaseRow, base_row, edits_behind};

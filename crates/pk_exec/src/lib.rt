@@ -13,6 +13,7 @@ mod conditions;
 mod draft;
 mod exec_err;
 mod insert_err;
+mod laws;
 mod list_view;
 mod ordering;
 mod reading;
@@ -25,10 +26,8 @@ mod work;
 
 pub use exec_err::ExecErr;
 pub use insert_err::InsertErr;
+pub use laws::covered_rows_are_there;
 pub use list_view::ListView;
 pub use selected::Selected;
 pub use view::View;
 pub use work::{MOST_CHANGES, Work};
-
-#[cfg(test)]
-mod tests;

@@ -5,7 +5,7 @@ ghost use Rattle.pk_exec.specs.declared.reading.Keep.TheVariants.{Values};
 ghost use Rattle.pk_exec.specs.Bases.{base_rows, rows_in};
 ghost use Rattle.pk_exec.specs.Fates.{CanJudge};
 ghost use Rattle.pk_exec.specs.Reading.{kept, kept_rows, row_list, CanTake, CanJudgeRow};
-ghost use Rattle.pk_exec.specs.Works.{IsAdmitted};
+ghost use Rattle.pk_exec.specs.Seen.{IsAdmitted};
 ghost use Rattle.pk_exec.specs.Views.{IsLeft, HasStoreCause};
 
 use crate::base::{base_row, edits_behind};

@@ -2,7 +2,7 @@ ghost use Rattle.std.specs.Prelude.{◌≡◌, ◌+◌, ◌≤◌, IfOk, OnOk, n
 ghost use Rattle.std.specs.List.Sorted.{IsStrictlySortedBy};
 ghost use Rattle.std.specs.Ordering.{nat_cmp};
 ghost use Rattle.std.specs.List.{position};
-ghost use Rattle.pk_exec.specs.Works.{no_edits, edits_at, edit_count, work_size, size_elsewhere, changed_tables, with_table, place_in, stands_at};
+ghost use Rattle.pk_exec.specs.Works.{IsWork, no_edits, edits_at, edit_count, work_size, size_elsewhere, changed_tables, with_table, place_in, stands_at};
 
 use crate::table_edits::{EditedRow, TableEdits};
 use pk_values::{Memory, Row};
@@ -50,6 +50,7 @@ impl Work {
     pub fn size(&self) -> u64
         ensures size { result ≡ work_size self.now }
         ensures most { result ≤ 20000 }
+        ensures work { IsWork self.now }
     {
         let mut size = 0;
         for table in &self.tables {

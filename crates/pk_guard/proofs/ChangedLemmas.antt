@@ -1,32 +1,18 @@
 -- Rows in the order of their ids, and those that are put among them.
-use Rattle.std.proofs.Common.{◌≡◌, refl, sym, ◌∙◌, ap, ℕ, ◌≤◌, ◌<◌, Bool, true, false, List, [], ◌∷◌, ◌++◌, map, Ordering, inl, inr, arith, if◌then◌else◌}
+use Rattle.std.proofs.Common.{◌≡◌, refl, sym, ◌∙◌, ap, ℕ, ◌≤◌, ◌<◌, Bool, true, false, List, [], ◌∷◌, ◌++◌, map, inl, inr, arith, if◌then◌else◌}
 use Rattle.std.specs.Prelude.{filter}
 use Rattle.std.specs.List.{AllByRecursion}
 use Rattle.std.specs.List.Sorted.{IsStrictlySortedBy}
 use Rattle.std.specs.Ordering.{nat_cmp}
 use Rattle.std.specs.Cmp.{nat_cmp_is}
-use Rattle.std.specs.declared.cmp.Ordering.TheVariants.{Less, Equal, Greater}
+use Rattle.std.specs.declared.cmp.Ordering.TheVariants.{Less}
 use Rattle.std.proofs.lemmas.Bool.{cases_lt, lt-ltb, le-ltb, ne_eqb, eq-eqb}
 use Rattle.pk_values.specs.declared.placed.Placed.{Placed}
 use Rattle.pk_guard.specs.Changed.{RowsAscend, put_row, put_rows, stays}
 use Rattle.pk_guard.specs.Splits.{below_id, above_id, standing}
+use Rattle.pk_values.proofs.NumberLemmas.{less_numbers}
 
 -- ---- the order of ids
-
-pub less_numbers : (a b : ℕ) → nat_cmp a b ≡ Less → a < b
-less_numbers a b less = elim (cases_lt a b) as (λ _. a < b) [
-  | inl lt ↦ lt
-  | inr ge ↦ elim (cases_lt b a) as (λ _. a < b) [
-    | inl gt ↦ absurd (more (nat_cmp a b) (nat_cmp_is a b Greater gt) less)
-    | inr le ↦ absurd (same (nat_cmp a b) (nat_cmp_is a b Equal (omega (arith, ge, le))) less)
-  ]
-]
-  where
-    more : (o : Ordering) → Greater ≡ o → o ≡ Less → ⊥
-    more o greater less = cc
-
-    same : (o : Ordering) → Equal ≡ o → o ≡ Less → ⊥
-    same o equal less = cc
 
 -- all ids are above this one
 abbrev pub Above : ℕ → List Placed → Type 0

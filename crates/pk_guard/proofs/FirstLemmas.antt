@@ -10,6 +10,7 @@ use Rattle.pk_guard.specs.Breaks.{breaks, first_pair}
 use Rattle.pk_guard.specs.Changed.{put_rows, stays}
 use Rattle.pk_guard.specs.Splits.{below_id, above_id, standing, first_between}
 use Rattle.pk_guard.proofs.ChangedLemmas.{Ascends, ascends_kept, none_below_from, standing_split}
+use Rattle.pk_values.proofs.ListLemmas.{map_none}
 
 -- ---- of two choices
 
@@ -20,10 +21,6 @@ neither (Some x) p none = absurd (cc)
 pub or_nested : {X : Type 0} (o p r : Option X) → option_or (option_or o p) r ≡ option_or o (option_or p r)
 or_nested None p r = refl
 or_nested (Some x) p r = refl
-
-pub unmapped : {X Y : Type 0} (f : X → Y) (o : Option X) → option_map f o ≡ None → o ≡ None
-unmapped f None none = refl
-unmapped f (Some x) none = absurd (cc)
 
 -- ---- what isn't found
 
@@ -50,7 +47,7 @@ unbroken_kept k s [] none = refl
 unbroken_kept k s (p ∷ ps) none =
     let parts = neither (option_map (λ q. (p, q)) (find (breaks k p) ps)) (first_pair k ps) none in
     elim (s p) as (λ b. first_pair k (if b then p ∷ filter s ps else filter s ps) ≡ None) [
-      | true ↦ rw (none_kept (breaks k p) s ps (unmapped (λ q. (p, q)) (find (breaks k p) ps) parts.0)) (unbroken_kept k s ps parts.1)
+      | true ↦ rw (none_kept (breaks k p) s ps (map_none (λ q. (p, q)) (find (breaks k p) ps) parts.0)) (unbroken_kept k s ps parts.1)
       | false ↦ unbroken_kept k s ps parts.1
     ]
 
@@ -88,7 +85,7 @@ unfolding first_pair first_between
 low_pairs k s id [] rest highs ascend none same = refl
 low_pairs k s id (q ∷ qs) rest highs ascend none same =
     let parts = neither (option_map (λ r. (q, r)) (find (breaks k q) qs)) (first_pair k qs) none in
-    let alone = unmapped (λ r. (q, r)) (find (breaks k q) qs) parts.0 in
+    let alone = map_none (λ r. (q, r)) (find (breaks k q) qs) parts.0 in
     elim (cases_lt q.id id) [
       | inl lt ↦
           let above : above_id id (q ∷ qs) ≡ above_id id qs = ap (λ (b : Bool). if b then q ∷ above_id id qs else above_id id qs) (le-ltb id q.id (omega (arith, lt))) in

@@ -1,19 +1,20 @@
 -- Rows and ids that are sought among others.
-use Rattle.std.proofs.Common.{◌≡◌, refl, sym, ap, ℕ, zero, suc, ◌-◌, ◌≤◌, ◌<◌, Bool, true, false, ◌==◌, ◌||◌, List, [], ◌∷◌, length, get_or, take, drop, Result, Ok, Err, Ordering, inl, inr, arith}
+use Rattle.std.proofs.Common.{◌≡◌, refl, sym, ap, ℕ, zero, suc, ◌-◌, ◌≤◌, ◌<◌, true, false, ◌==◌, List, [], ◌∷◌, length, get_or, take, drop, Result, Ok, Err, Ordering, inl, inr, arith}
 use Rattle.std.specs.List.{list_any}
 use Rattle.std.specs.List.Sorted.{IsBinarySearchResult, IsNonDecreasingBy, IsStrictlySortedBy}
 use Rattle.std.specs.Ordering.{nat_cmp, ordering_index}
 use Rattle.std.specs.Cmp.{nat_cmp_is}
 use Rattle.std.specs.Result.{is_ok, is_err}
 use Rattle.std.specs.declared.cmp.Ordering.TheVariants.{Less, Equal, Greater}
-use Rattle.std.proofs.lemmas.Bool.{cases_lt, lt-ltb, le-ltb, eq-eqb, ne_eqb}
+use Rattle.std.proofs.lemmas.Bool.{cases_lt, lt-ltb, le-ltb, eq-eqb, ne_eqb, or_right}
 use Rattle.std.proofs.lemmas.List.{length-drop, take_all}
 use Rattle.std.proofs.lemmas.List.Sorted.{searched}
 use Rattle.std.proofs.lemmas.Map.Keys.{below_from_sorted}
 use Rattle.pk_values.specs.declared.placed.Placed.{Placed}
 use Rattle.pk_guard.specs.Changed.{RowsAscend, stays}
 use Rattle.pk_guard.specs.Splits.{below_id, above_id}
-use Rattle.pk_guard.proofs.ChangedLemmas.{Above, Ascends, ascends_from, above_lower, all_above, none_below_from, less_numbers}
+use Rattle.pk_guard.proofs.ChangedLemmas.{Above, Ascends, ascends_from, above_lower, all_above, none_below_from}
+use Rattle.pk_values.proofs.NumberLemmas.{less_numbers}
 
 -- ---- answers of a comparison
 
@@ -132,11 +133,7 @@ split_missed rows id place (Err i) ascend within is missed =
 any_at : (ids : List ℕ) (id i : ℕ) → i < length ids → get_or ids i 0 ≡ id → list_any (λ k. k == id) ids ≡ true
 any_at [] id i within same = absurd (omega (arith, within))
 any_at (k ∷ ks) id zero within same = rw (eq-eqb k id same) refl
-any_at (k ∷ ks) id (suc i) within same = or_true (k == id) _ (any_at ks id i (omega (arith, within)) same)
-  where
-    or_true : (a b : Bool) → b ≡ true → (a || b) ≡ true
-    or_true true b e = refl
-    or_true false b e = e
+any_at (k ∷ ks) id (suc i) within same = or_right (k == id) _ (any_at ks id i (omega (arith, within)) same)
 
 none_at : (ids : List ℕ) (id : ℕ) → ((i : ℕ) → i < length ids → get_or ids i 0 ≡ id → ⊥) → list_any (λ k. k == id) ids ≡ false
 none_at [] id none = refl

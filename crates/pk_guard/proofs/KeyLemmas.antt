@@ -1,12 +1,11 @@
 -- The keys of a table: what they hold by, and where one is broken.
-use Rattle.std.proofs.Common.{◌≡◌, refl, sym, ◌∙◌, subst, ℕ, zero, suc, ◌+◌, ◌^◌, ◌<◌, Bool, true, false, not, ◌||◌, List, [], ◌∷◌, length, get_or, nat_lt, All, Some, None, slice_get, inl, inr, arith}
+use Rattle.std.proofs.Common.{◌≡◌, refl, sym, subst, ℕ, zero, suc, ◌+◌, ◌^◌, ◌<◌, true, false, not, List, [], ◌∷◌, length, get_or, All, Some, None, slice_get, arith}
 use Rattle.std.specs.Prelude.{find, option_map}
-use Rattle.std.specs.List.{list_all, list_any, range_with_len}
-use Rattle.std.proofs.lemmas.Bool.{and_parts, and_from, or_parts, or_from, cases_lt, lt-ltb, not-true, not_from_false}
+use Rattle.std.specs.List.{list_all, list_any}
+use Rattle.std.proofs.lemmas.Bool.{and_parts, and_from, or_parts, or_from, not-true, not_from_false}
 use Rattle.std.proofs.lemmas.List.{length-map}
-use Rattle.std.proofs.lemmas.Nat.Bits.{bit_at_above}
 use Rattle.std.proofs.lemmas.Option.{get_or_from_slice_get, slice_get_within, slice_get-get_or}
-use Rattle.pk_values.specs.ColumnSet.{has_column, columns}
+use Rattle.pk_values.specs.ColumnSet.{columns}
 use Rattle.pk_values.specs.Values.{fits_kinds}
 use Rattle.pk_values.specs.declared.key.KeyDecl.{KeyDecl}
 use Rattle.pk_values.specs.declared.key.Sort.{Sort}
@@ -14,7 +13,6 @@ use Rattle.pk_values.specs.declared.key.Sort.TheVariants as sorts
 use Rattle.pk_values.specs.declared.kind.Kind.{Kind}
 use Rattle.pk_values.specs.declared.placed.Placed.{Placed}
 use Rattle.pk_values.specs.declared.value.Value.{Value}
-use Rattle.pk_values.proofs.RangeLemmas.{all_kept}
 use Rattle.pk_similar.specs.Similarity.{are_below, weak, no_pair}
 use Rattle.pk_similar.proofs.PairLemmas.{strong_weak}
 use Rattle.pk_similar.proofs.TableLemmas.{table_weight, kept_apart, kept_apart_completes, no_strong_agree, apart_no_strong, no_weak_agree, certain_no_weak}
@@ -26,32 +24,16 @@ use Rattle.pk_rule.proofs.RuleLemmas.{one_holds}
 use Rattle.pk_guard.specs.Breaks.{are_similar, breaks, first_pair, break_of, first_broken, first_break}
 use Rattle.pk_guard.specs.Holds.{KeysHold, values_of}
 use Rattle.pk_guard.specs.Splits.{AreWide}
-use Rattle.pk_guard.proofs.FirstLemmas.{neither, unmapped, none_first}
+use Rattle.pk_guard.proofs.FirstLemmas.{neither, none_first}
+use Rattle.pk_values.proofs.ColumnLemmas.{columns_below}
+use Rattle.pk_values.proofs.ListLemmas.{map_none}
 
 -- ---- the columns of a key are columns of the table
-
-all_true : (p : ℕ → Bool) → ((c : ℕ) → p c ≡ true) → (cs : List ℕ) → list_all p cs ≡ true
-all_true p always [] = refl
-all_true p always (c ∷ cs) = and_from _ _ (always c) (all_true p always cs)
-
-set_below : (n set : ℕ) → set < 2 ^ n → are_below n (columns set) ≡ true
-unfolding columns
-set_below n set small = all_kept (has_column set) (λ c. nat_lt c n) (range_with_len 0 32) ∙ all_true (λ c. not (has_column set c) || nat_lt c n) inside (range_with_len 0 32)
-  where
-    or_true : (a b : Bool) → b ≡ true → (a || b) ≡ true
-    or_true true b e = refl
-    or_true false b e = e
-
-    inside : (c : ℕ) → (not (has_column set c) || nat_lt c n) ≡ true
-    inside c = elim (cases_lt c n) [
-      | inl lt ↦ or_true (not (has_column set c)) (nat_lt c n) (lt-ltb c n lt)
-      | inr ge ↦ let none : has_column set c ≡ false = rw (bit_at_above set n c small ge) refl in rw none refl
-    ]
 
 pub key_below : (s : Shape) (i : ℕ) (k : KeyDecl) → IsShape s → slice_get s.keys i ≡ Some k → are_below (length s.columns) (columns k.columns) ≡ true
 key_below s i k shape is =
     let small = shape.keys_inside i k (slice_get_within s.keys i k is) in
-    set_below (length s.columns) k.columns (subst (λ (key : KeyDecl). key.columns < 2 ^ length s.columns) (get_or_from_slice_get s.keys i k k is) small)
+    columns_below k.columns (length s.columns) (subst (λ (key : KeyDecl). key.columns < 2 ^ length s.columns) (get_or_from_slice_get s.keys i k k is) small)
 
 -- ---- admitted rows
 
@@ -95,7 +77,7 @@ unfolding first_pair
 unbroken_apart k [] none = refl
 unbroken_apart k (p ∷ ps) none =
     let parts = neither (option_map (λ q. (p, q)) (find (breaks k p) ps)) (first_pair k ps) none in
-    and_from _ _ (not_from_false _ (found_any k p ps (unmapped (λ q. (p, q)) (find (breaks k p) ps) parts.0))) (unbroken_apart k ps parts.1)
+    and_from _ _ (not_from_false _ (found_any k p ps (map_none (λ q. (p, q)) (find (breaks k p) ps) parts.0))) (unbroken_apart k ps parts.1)
 
 apart_unbroken : (k : KeyDecl) (rows : List Placed) → no_pair (are_similar k.sort (columns k.columns)) (values_of rows) ≡ true → first_pair k rows ≡ None
 unfolding first_pair
@@ -140,7 +122,7 @@ none_broken kinds place [] rows none i key is = cc
 none_broken kinds place (k ∷ ks) rows none zero key is =
     let same : k ≡ key = cc in
     let parts = neither (option_map (break_of kinds place k) (first_pair k rows)) (first_broken kinds (place + 1) ks rows) none in
-    subst (λ (j : KeyDecl). first_pair j rows ≡ None) same (unmapped (break_of kinds place k) (first_pair k rows) parts.0)
+    subst (λ (j : KeyDecl). first_pair j rows ≡ None) same (map_none (break_of kinds place k) (first_pair k rows) parts.0)
 none_broken kinds place (k ∷ ks) rows none (suc i) key is =
     none_broken kinds (place + 1) ks rows (neither (option_map (break_of kinds place k) (first_pair k rows)) (first_broken kinds (place + 1) ks rows) none).1 i key is
 

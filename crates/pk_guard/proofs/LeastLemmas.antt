@@ -23,8 +23,9 @@ use Rattle.pk_guard.specs.Breaks.{are_similar, breaks, first_pair, break_of, fir
 use Rattle.pk_guard.specs.Changed.{RowsAscend}
 use Rattle.pk_guard.specs.Laws.{BreaksAt, IsNoLater, IsLeastBreak, AreCommon, ShowsTwoRows}
 use Rattle.pk_guard.proofs.ChangedLemmas.{Above, Ascends, ascends_from}
-use Rattle.pk_guard.proofs.FirstLemmas.{neither, unmapped, none_first}
+use Rattle.pk_guard.proofs.FirstLemmas.{neither, none_first}
 use Rattle.pk_guard.proofs.KeyLemmas.{fit_admitted, key_below, kinds_below, held_unbroken, none_broken}
+use Rattle.pk_values.proofs.ListLemmas.{map_none}
 
 -- ---- places of rows that ascend
 
@@ -105,7 +106,7 @@ no_pair_at k (r ∷ rs) zero (suc j) p q none w =
     let parts = neither (option_map (λ x. (r, x)) (find (breaks k r) rs)) (first_pair k rs) none in
     let first = w.earlier in
     let same : r ≡ p = cc in
-    none_found (breaks k r) rs j q (unmapped (λ x. (r, x)) (find (breaks k r) rs) parts.0) w.later (subst (λ (x : Placed). breaks k x q ≡ true) (sym same) w.breaking)
+    none_found (breaks k r) rs j q (map_none (λ x. (r, x)) (find (breaks k r) rs) parts.0) w.later (subst (λ (x : Placed). breaks k x q ≡ true) (sym same) w.breaking)
 no_pair_at k (r ∷ rs) (suc i) (suc j) p q none w =
     let parts = neither (option_map (λ x. (r, x)) (find (breaks k r) rs)) (first_pair k rs) none in
     let apart = w.apart in

@@ -7,8 +7,12 @@ use Rattle.pk_values.specs.declared.changes.Changes.{Changes}
 use Rattle.pk_values.specs.declared.placed.Placed.{Placed}
 
 -- each id is above those before it
+abbrev pub IdsAscend : List ℕ → Type 0
+IdsAscend ids = IsStrictlySortedBy nat_cmp ids
+
+-- the ids of the rows ascend
 abbrev pub RowsAscend : List Placed → Type 0
-RowsAscend rows = IsStrictlySortedBy nat_cmp (map (λ (p : Placed). p.id) rows)
+RowsAscend rows = IdsAscend (map (λ (p : Placed). p.id) rows)
 
 -- the row at its place among the rows, in the place of the one with its id
 unfoldable pub put_row : Placed → List Placed → List Placed

@@ -1,16 +1,14 @@
 //! Rows by their ids, which ascend.
 
 ghost use Rattle.std.specs.Prelude.{◌≡◌};
-ghost use Rattle.std.specs.List.Sorted.{IsStrictlySortedBy};
-ghost use Rattle.std.specs.Ordering.{nat_cmp};
-ghost use Rattle.pk_guard.specs.Changed.{RowsAscend, stays};
+ghost use Rattle.pk_guard.specs.Changed.{IdsAscend, RowsAscend, stays};
 ghost use Rattle.pk_guard.specs.Splits.{below_id, above_id};
 
 use pk_values::Placed;
 
 /// Whether the row isn't among those that go, by a binary search.
 pub(crate) fn stays(row: &Placed, gone: &[u64]) -> bool
-    requires { IsStrictlySortedBy nat_cmp gone.now }
+    requires { IdsAscend gone.now }
     ensures { result ≡ stays gone.now row.now }
 {
     gone.binary_search(&row.id).is_err()

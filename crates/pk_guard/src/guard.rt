@@ -1,9 +1,7 @@
-ghost use Rattle.std.specs.Prelude.{◌≡◌, All, IfOk, map};
-ghost use Rattle.std.specs.List.Sorted.{IsStrictlySortedBy};
-ghost use Rattle.std.specs.Ordering.{nat_cmp};
+ghost use Rattle.std.specs.Prelude.{◌≡◌, All, IfOk};
 ghost use Rattle.pk_schema.specs.Admits.{Admits};
 ghost use Rattle.pk_guard.specs.Breaks.{first_break};
-ghost use Rattle.pk_guard.specs.Changed.{changed_rows};
+ghost use Rattle.pk_guard.specs.Changed.{IdsAscend, RowsAscend, changed_rows};
 ghost use Rattle.pk_guard.specs.Holds.{KeysHold};
 
 use crate::judging;
@@ -33,7 +31,7 @@ impl Guard {
     /// The guard of these rows, which ascend by their ids; or their first break, exactly where some key
     /// of the table doesn't hold. All pairs of rows are compared.
     pub fn build(alloc: Global, schema: &Schema, rows: &[Placed]) -> Result<Guard, BuildErr>
-        requires ascend { IsStrictlySortedBy nat_cmp (map (λ p. p.id) rows.now) }
+        requires ascend { RowsAscend rows.now }
         requires admitted { All (λ p. Admits schema.now p.row) rows.now }
         ensures { Builds schema.now rows.now result }
     {
@@ -55,11 +53,11 @@ impl Guard {
         rows: &[Placed],
         changes: &Changes,
     ) -> Result<Option<Break>, Memory>
-        requires ascend { IsStrictlySortedBy nat_cmp (map (λ p. p.id) rows.now) }
+        requires ascend { RowsAscend rows.now }
         requires admitted { All (λ p. Admits schema.now p.row) rows.now }
         requires hold { KeysHold schema.now rows.now }
-        requires gone_ascend { IsStrictlySortedBy nat_cmp changes.now.gone }
-        requires put_ascend { IsStrictlySortedBy nat_cmp (map (λ p. p.id) changes.now.put) }
+        requires gone_ascend { IdsAscend changes.now.gone }
+        requires put_ascend { RowsAscend changes.now.put }
         requires put_admitted { All (λ p. Admits schema.now p.row) changes.now.put }
         ensures { IfOk result (λ b. b ≡ first_break schema.now (changed_rows changes.now rows.now)) }
     {

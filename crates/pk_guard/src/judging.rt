@@ -1,14 +1,12 @@
 //! The first break of a table's keys, among rows of which some are changed.
 
-ghost use Rattle.std.specs.Prelude.{◌≡◌, All, IfOk, IsTrue, None, length, map, option_map};
-ghost use Rattle.std.specs.List.Sorted.{IsStrictlySortedBy};
-ghost use Rattle.std.specs.Ordering.{nat_cmp};
+ghost use Rattle.std.specs.Prelude.{◌≡◌, All, IfOk, IsTrue, None, length, option_map};
 ghost use Rattle.pk_values.specs.ColumnSet.{columns as numbers};
 ghost use Rattle.pk_similar.specs.Similarity.{are_below};
 ghost use Rattle.pk_schema.specs.Admits.{Admits};
 ghost use Rattle.pk_schema.specs.Shapes.{kinds_of};
 ghost use Rattle.pk_guard.specs.Breaks.{breaks, break_of, first_break, first_pair};
-ghost use Rattle.pk_guard.specs.Changed.{RowsAscend};
+ghost use Rattle.pk_guard.specs.Changed.{IdsAscend, RowsAscend};
 ghost use Rattle.pk_guard.specs.Holds.{KeysHold};
 ghost use Rattle.pk_guard.specs.Splits.{standing, is_wide, AreWide};
 
@@ -30,7 +28,7 @@ pub(crate) fn first_break(
     requires rows_ascend { RowsAscend rows.now }
     requires rows_admitted { All (λ p. Admits schema.now p.row) rows.now }
     requires hold { KeysHold schema.now rows.now }
-    requires gone_ascend { IsStrictlySortedBy nat_cmp gone.now }
+    requires gone_ascend { IdsAscend gone.now }
     requires put_ascend { RowsAscend put.now }
     requires put_admitted { All (λ p. Admits schema.now p.row) put.now }
     ensures { IfOk result (λ b. b ≡ first_break schema.now (standing gone.now put.now rows.now)) }
@@ -60,7 +58,7 @@ fn key_break(
     requires rows_wide { AreWide key.now rows.now }
     requires put_wide { AreWide key.now put.now }
     requires rows_ascend { RowsAscend rows.now }
-    requires gone_ascend { IsStrictlySortedBy nat_cmp gone.now }
+    requires gone_ascend { IdsAscend gone.now }
     requires put_ascend { RowsAscend put.now }
     requires unbroken { first_pair key.now rows.now ≡ None }
     ensures { IfOk result (λ b. b ≡ option_map (break_of (kinds_of columns.now) place key.now) (first_pair key.now (standing gone.now put.now rows.now))) }

@@ -20,6 +20,3 @@ pub use laws::{
     breaks_show_two_rows, definitions_at_their_edges, first_breaks_are_least,
     keys_hold_where_nothing_breaks,
 };
-
-#[cfg(test)]
-mod tests;

@@ -1,11 +1,9 @@
 //! The first two rows that break a key, among rows of which some are changed.
 
 ghost use Rattle.std.specs.Prelude.{◌≡◌, None, IsTrue, if◌then◌else◌, filter, find, option_map};
-ghost use Rattle.std.specs.List.Sorted.{IsStrictlySortedBy};
 ghost use Rattle.std.specs.Option.{option_copied};
-ghost use Rattle.std.specs.Ordering.{nat_cmp};
 ghost use Rattle.pk_guard.specs.Breaks.{breaks, first_pair};
-ghost use Rattle.pk_guard.specs.Changed.{RowsAscend, stays};
+ghost use Rattle.pk_guard.specs.Changed.{IdsAscend, RowsAscend, stays};
 ghost use Rattle.pk_guard.specs.Splits.{standing, first_between, is_wide, AreWide};
 
 use crate::by_id::{split_at_id, stays};
@@ -48,7 +46,7 @@ fn first_kept<'a>(
 ) -> Option<&'a Placed>
     requires low_wide { IsTrue (is_wide key.now low.now) }
     requires rows_wide { AreWide key.now rows.now }
-    requires gone_ascend { IsStrictlySortedBy nat_cmp gone.now }
+    requires gone_ascend { IdsAscend gone.now }
     ensures { option_copied result ≡ find (breaks key.now low.now) (filter (stays gone.now) rows.now) }
 {
     for row in rows {
@@ -71,7 +69,7 @@ fn first_standing<'a>(
     requires rows_wide { AreWide key.now rows.now }
     requires put_wide { AreWide key.now put.now }
     requires rows_ascend { RowsAscend rows.now }
-    requires gone_ascend { IsStrictlySortedBy nat_cmp gone.now }
+    requires gone_ascend { IdsAscend gone.now }
     requires put_ascend { RowsAscend put.now }
     ensures { option_copied result ≡ find (breaks key.now low.now) (standing gone.now put.now rows.now) }
 {
@@ -100,7 +98,7 @@ fn first_partner<'a>(
 ) -> Option<&'a Placed>
     requires low_wide { IsTrue (is_wide key.now low.now) }
     requires put_wide { AreWide key.now put.now }
-    requires gone_ascend { IsStrictlySortedBy nat_cmp gone.now }
+    requires gone_ascend { IdsAscend gone.now }
     ensures { option_copied result ≡ (if stays gone.now low.now then find (breaks key.now low.now) put.now else None) }
 {
     if stays(low, gone) {
@@ -120,7 +118,7 @@ fn first_between<'a>(
 ) -> Option<(&'a Placed, &'a Placed)>
     requires rows_wide { AreWide key.now rows.now }
     requires put_wide { AreWide key.now put.now }
-    requires gone_ascend { IsStrictlySortedBy nat_cmp gone.now }
+    requires gone_ascend { IdsAscend gone.now }
     ensures { option_map (λ pair. (pair.0.now, pair.1.now)) result ≡ first_between key.now (filter (stays gone.now) rows.now) put.now }
 {
     for low in rows {
@@ -142,7 +140,7 @@ pub(crate) fn first_pair<'a>(
     requires rows_wide { AreWide key.now rows.now }
     requires put_wide { AreWide key.now put.now }
     requires rows_ascend { RowsAscend rows.now }
-    requires gone_ascend { IsStrictlySortedBy nat_cmp gone.now }
+    requires gone_ascend { IdsAscend gone.now }
     requires put_ascend { RowsAscend put.now }
     requires unbroken { first_pair key.now rows.now ≡ None }
     ensures { option_map (λ pair. (pair.0.now, pair.1.now)) result ≡ first_pair key.now (standing gone.now put.now rows.now) }

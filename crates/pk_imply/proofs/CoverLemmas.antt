@@ -14,9 +14,10 @@ use Rattle.pk_rule.specs.Laws.{key_over}
 use Rattle.pk_imply.specs.Candidates.{candidates, some_implies, IsLeast}
 use Rattle.pk_imply.specs.Cover.{IsMinimal, ListsAll, IsCoverByRule}
 use Rattle.pk_imply.proofs.ListLemmas.{in_kept, kept_in, in_map, map_in}
-use Rattle.pk_imply.proofs.SubsetLemmas.{is_set, subset_refl, subset_trans, subset_same}
+use Rattle.pk_imply.proofs.SubsetLemmas.{subset_trans, subset_same}
 use Rattle.pk_imply.proofs.RuleLemmas.{alone_from, alone_parts, implied_by, implied_from}
 use Rattle.pk_imply.proofs.LeastLemmas.{lists_same, least_inside}
+use Rattle.pk_values.proofs.ColumnLemmas.{set_bounded, subset_itself}
 
 -- the key over the set follows by the rule
 abbrev pub follows_over : Plain → Sort → ℕ → Type 0
@@ -34,14 +35,14 @@ pub key_inside : (s : Plain) (d : KeyDecl) → IsPlain s → Contains s.keys d �
 key_inside s d plain found = All-contains (λ (k : KeyDecl). k.columns < 2 ^ length s.kinds) s.keys d plain.keys_inside found
 
 pub inside_set : (s : Plain) (x : ℕ) → IsPlain s → x < 2 ^ length s.kinds → IsColumnSet x
-inside_set s x plain inside = is_set x (length s.kinds) plain.few_columns inside
+inside_set s x plain inside = set_bounded x (length s.kinds) plain.few_columns inside
 
 -- a declared key that implies one of this sort gives a candidate
 candidate_from : (s : Plain) (sort : Sort) (d : KeyDecl) (x : ℕ) → Contains s.keys d → alone_implies s.known d (key_over sort x) ≡ true
     → Contains (sets_of s sort) d.columns
 candidate_from s sort d x found alone =
     let own : alone_implies s.known d (key_over sort d.columns) ≡ true =
-    alone_from s.known d (key_over sort d.columns) (subset_refl d.columns) (alone_parts s.known d (key_over sort x) alone).1 in
+    alone_from s.known d (key_over sort d.columns) (subset_itself d.columns) (alone_parts s.known d (key_over sort x) alone).1 in
     in_map (λ (e : KeyDecl). e.columns) _ d (in_kept (λ (e : KeyDecl). alone_implies s.known e (key_over sort e.columns)) s.keys d found own)
 
 -- and over each candidate the key follows, and it lies inside the schema's columns

@@ -1,5 +1,5 @@
 -- What the cover comes to, by column sets.
-use Rattle.std.proofs.Common.{◌≡◌, ◌⊎◌, refl, sym, ◌∙◌, ap, subst, ℕ, ◌^◌, ◌<◌, Bool, true, false, List, ◌∷◌, ◌++◌, length, map, inl, inr}
+use Rattle.std.proofs.Common.{◌≡◌, ◌⊎◌, refl, sym, ◌∙◌, ap, subst, ℕ, ◌^◌, ◌<◌, true, false, List, ◌∷◌, ◌++◌, length, map, inl, inr}
 use Rattle.std.specs.List.{Contains}
 use Rattle.std.proofs.lemmas.Bool.{cases_Bool, both_ways}
 use Rattle.std.proofs.lemmas.List.Elements.{Contains-append_cases, Contains-append_left, Contains-append_right}
@@ -11,15 +11,17 @@ use Rattle.pk_rule.specs.Plain.{Plain, IsPlain}
 use Rattle.pk_rule.specs.Tables.{Implied}
 use Rattle.pk_rule.specs.Rule.{alone_implies, is_implied}
 use Rattle.pk_rule.specs.Laws.{key_over}
-use Rattle.pk_rule.proofs.RuleLemmas.{implied_holds, holds_implied}
+use Rattle.pk_rule.proofs.RuleLemmas.{implied_holds, holds_implied, itself_implied}
 use Rattle.pk_imply.specs.Cover.{IsMinimal, IsCoverOf, IsCover, IsCoverByRule, cover_of}
 use Rattle.pk_imply.specs.Laws.{with_keys, MayBeNull}
 use Rattle.pk_imply.proofs.ListLemmas.{in_first, in_map, map_in, all_inside}
-use Rattle.pk_imply.proofs.SubsetLemmas.{subset_refl, subset_trans}
-use Rattle.pk_imply.proofs.RuleLemmas.{alone_from, alone_parts, alone_itself, alone_trans, fits_possible, fits_certain, known_of_possible, implied_by, implied_from}
+use Rattle.pk_imply.proofs.SubsetLemmas.{subset_trans}
+use Rattle.pk_imply.proofs.RuleLemmas.{alone_from, alone_parts, alone_trans, fits_possible, fits_certain, known_of_possible, implied_by, implied_from}
 use Rattle.pk_imply.proofs.CoverLemmas.{minimal, follows_over, minimal_within, inside_set, key_inside}
 use Rattle.pk_imply.proofs.TruthLemmas.{cover_by_rule, cover_computed}
 use Rattle.pk_imply.proofs.OrderLemmas.{one_list, Distinct, keys_once, joined_once, not_among_others, others_among}
+use Rattle.std.specs.Cmp.{both_ways as same_truth}
+use Rattle.pk_values.proofs.ColumnLemmas.{subset_itself}
 
 -- ---- there is one cover
 
@@ -115,12 +117,6 @@ to_cover s keys Possible x plain cover inside implied =
           (alone_from s.known (key_over Possible within.0) (key_over Possible x) within.1 (fits_possible s.known (key_over Possible within.0)))
     ]
 
-same_truth : (x y : Bool) → (x ≡ true → y ≡ true) → (y ≡ true → x ≡ true) → x ≡ y
-same_truth true true _ _ = refl
-same_truth false false _ _ = refl
-same_truth true false up _ = sym (up refl)
-same_truth false true _ down = down refl
-
 pub implies_the_same : (s : Plain) (keys : List KeyDecl) (k : KeyDecl) → IsPlain s → IsCoverByRule s keys → k.columns < 2 ^ length s.kinds
     → is_implied (with_keys s keys) k ≡ is_implied s k
 implies_the_same s keys k plain cover inside =
@@ -160,7 +156,7 @@ certain_moves s y x plain least alone =
 possible_moves : (s : Plain) (y x : ℕ) → IsPlain s → minimal s Possible y → alone_implies s.known (key_over Possible y) (key_over Certain x) ≡ true → follows_over s Certain y
 possible_moves s y x plain least alone =
     moved s (key_over Possible y) (key_over Certain y) plain least.inside least.holds
-    (alone_from s.known (key_over Possible y) (key_over Certain y) (subset_refl y) (alone_parts s.known (key_over Possible y) (key_over Certain x) alone).1)
+    (alone_from s.known (key_over Possible y) (key_over Certain y) (subset_itself y) (alone_parts s.known (key_over Possible y) (key_over Certain x) alone).1)
 
 -- so of two keys of the cover one implies the other only where they are one
 same_if_implies : (s : Plain) (keys : List KeyDecl) → IsPlain s → IsCoverByRule s keys → (d k : KeyDecl) → Contains keys d → Contains keys k
@@ -201,7 +197,7 @@ other_follows : (s : Plain) (others : List KeyDecl) → IsPlain (with_keys s oth
     → (d : KeyDecl) → Contains others d → (d.columns < 2 ^ length s.kinds) × (is_implied s d ≡ true)
 other_follows s others plain equal d found =
     let inside = key_inside (with_keys s others) d plain found in
-    (inside, sym (equal d inside) ∙ implied_from (with_keys s others) d d found (alone_itself s.known d))
+    (inside, sym (equal d inside) ∙ implied_from (with_keys s others) d d found (itself_implied s.known d))
 
 certain_among : (s : Plain) (others : List KeyDecl) (x : ℕ) → minimal s Certain x → MayBeNull s others
     → (sort : Sort) (y : ℕ) → Contains others (key_over sort y) → (y < 2 ^ length s.kinds) × (follows_over s sort y)

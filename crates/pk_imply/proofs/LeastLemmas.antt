@@ -14,7 +14,8 @@ use Rattle.pk_values.proofs.ColumnOrder.{column_set_cmp_total}
 use Rattle.pk_imply.specs.Cover.{ListsAll}
 use Rattle.pk_imply.specs.Candidates.{has_part, IsLeast}
 use Rattle.pk_imply.proofs.ListLemmas.{in_kept, kept_in, any_at, any_from}
-use Rattle.pk_imply.proofs.SubsetLemmas.{subset_refl, subset_trans, subset_smaller}
+use Rattle.pk_imply.proofs.SubsetLemmas.{subset_trans, subset_smaller}
+use Rattle.pk_values.proofs.ColumnLemmas.{subset_itself}
 
 -- what lists all that have P lists all that have what is the same
 pub lists_same : (P Q : ℕ → Type 0) (xs : List ℕ) → ((x : ℕ) → P x → Q x) → ((x : ℕ) → Q x → P x) → ListsAll P xs → ListsAll Q xs
@@ -85,7 +86,7 @@ through_part : (sets : List ℕ) (x : ℕ) (test : Bool) → has_part sets x ≡
     → ((y : ℕ) → Contains sets y → length (columns y) < length (columns x) → (w : ℕ) × (is_subset w y ≡ true) × IsLeast sets w)
     → (w : ℕ) × (is_subset w x ≡ true) × IsLeast sets w
 through_part sets x false none are_sets found deeper =
-    (x, subset_refl x, least_from_test sets x (in_kept (λ y. not (has_part sets y)) sets x found (rw none refl)))
+    (x, subset_itself x, least_from_test sets x (in_kept (λ y. not (has_part sets y)) sets x found (rw none refl)))
 through_part sets x true part are_sets found deeper =
     let other = any_at (λ z. is_subset z x && not (z == x)) sets part in
     let inside : is_subset other.0 x ≡ true = (and_parts (is_subset other.0 x) (not (other.0 == x)) other.2).0 in

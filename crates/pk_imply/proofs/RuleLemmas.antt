@@ -11,7 +11,7 @@ use Rattle.pk_rule.specs.Plain.{Plain}
 use Rattle.pk_rule.specs.Rule.{alone_implies, is_implied}
 use Rattle.pk_rule.specs.Laws.{key_over}
 use Rattle.pk_imply.proofs.ListLemmas.{any_at, any_from}
-use Rattle.pk_imply.proofs.SubsetLemmas.{subset_refl, subset_trans}
+use Rattle.pk_imply.proofs.SubsetLemmas.{subset_trans}
 
 -- ---- one key alone
 
@@ -49,9 +49,6 @@ fits_own known d = own d.sort (is_subset d.columns known)
     own : (sort : Sort) (b : Bool) → (not (is_certain sort) || is_certain sort || b) ≡ true
     own Certain b = refl
     own Possible b = refl
-
-pub alone_itself : (known : ℕ) (d : KeyDecl) → alone_implies known d d ≡ true
-alone_itself known d = alone_from known d d (subset_refl d.columns) (fits_own known d)
 
 -- one key implies another, and that a third
 fits_trans : (known : ℕ) (r s t : Sort) (d e : ℕ) → IsColumnSet d → IsColumnSet e → is_subset d e ≡ true

@@ -20,9 +20,9 @@ use Rattle.pk_rule.proofs.RuleLemmas.{one_holds}
 use Rattle.pk_rule.proofs.StepLemmas.{step_holds}
 use Rattle.pk_imply.specs.Deriving.{implying_place, column_rules, rules_between, rules_from, rules_of, Leads, Derives}
 use Rattle.pk_imply.proofs.PlaceLemmas.{got_in}
-use Rattle.pk_imply.proofs.SubsetLemmas.{subset_refl}
 use Rattle.pk_imply.proofs.RuleLemmas.{alone_from, alone_parts, fits_own, known_of_possible}
 use Rattle.pk_imply.proofs.CoverLemmas.{inside_set, key_inside}
+use Rattle.pk_values.proofs.ColumnLemmas.{subset_itself}
 
 -- ---- which rules are told
 
@@ -124,10 +124,10 @@ kept_by_rules s rows [] of x k plain x_set table leads holds = subst (KeyHolds s
 kept_by_rules s rows (Declared place ∷ rules) of x k plain x_set table leads holds = absurd leads
 kept_by_rules s rows (Strengthen ∷ rules) of x k plain x_set table leads holds =
     kept_by_rules s rows rules Certain x k plain x_set table leads.2
-    (turn_step s rows of Certain x x plain x_set table (rw (subset_refl x, leads.0, leads.1) refl) holds)
+    (turn_step s rows of Certain x x plain x_set table (rw (subset_itself x, leads.0, leads.1) refl) holds)
 kept_by_rules s rows (Weaken ∷ rules) of x k plain x_set table leads holds =
     kept_by_rules s rows rules Possible x k plain x_set table leads.1
-    (turn_step s rows of Possible x x plain x_set table (rw (subset_refl x) refl) holds)
+    (turn_step s rows of Possible x x plain x_set table (rw (subset_itself x) refl) holds)
 kept_by_rules s rows (Extend more ∷ rules) of x k plain x_set table leads holds =
     kept_by_rules s rows rules of more k plain leads.0 table leads.2
     (turn_step s rows of of x more plain leads.0 table (alone_from s.known (key_over of x) (key_over of more) leads.1 (fits_own s.known (key_over of x))) holds)

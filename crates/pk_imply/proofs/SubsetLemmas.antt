@@ -1,32 +1,17 @@
 -- Inclusion of sets of columns.
-use Rattle.std.proofs.Common.{◌≡◌, ◌⊎◌, refl, sym, ap, ℕ, ◌^◌, ◌<◌, ◌≤◌, Bool, true, false, cond, List, [], ◌∷◌, length, inl, inr, arith}
+use Rattle.std.proofs.Common.{◌≡◌, ◌⊎◌, refl, ap, ℕ, ◌<◌, Bool, true, false, cond, List, [], ◌∷◌, length, inl, inr, arith}
 use Rattle.std.specs.List.{filter, range_with_len}
-use Rattle.std.proofs.Math.Pow.{pow_mono}
 use Rattle.pk_values.specs.ColumnSet.{IsColumnSet, has_column, columns, is_subset}
 use Rattle.pk_values.proofs.ColumnLemmas.{subset_members, subset_from_members, same_set, set_from_columns}
-
--- a set of at most 32 columns is one
-pub is_set : (set width : ℕ) → width ≤ 32 → set < 2 ^ width → IsColumnSet set
-is_set set width few below =
-    let most : 2 ^ width ≤ 2 ^ 32 = pow_mono few in
-    omega (arith, most, below)
-
-pub subset_refl : (a : ℕ) → is_subset a a ≡ true
-subset_refl a = subset_from_members a a (λ k holds. holds)
+use Rattle.std.specs.Cmp.{both_ways}
 
 pub subset_trans : (a b c : ℕ) → IsColumnSet a → IsColumnSet b → is_subset a b ≡ true → is_subset b c ≡ true → is_subset a c ≡ true
 subset_trans a b c a_set b_set first second =
     subset_from_members a c (λ k holds. subset_members b c k b_set second (subset_members a b k a_set first holds))
 
-same_truth : (x y : Bool) → (x ≡ true → y ≡ true) → (y ≡ true → x ≡ true) → x ≡ y
-same_truth true true _ _ = refl
-same_truth false false _ _ = refl
-same_truth true false up _ = sym (up refl)
-same_truth false true _ down = down refl
-
 pub subset_same : (a b : ℕ) → IsColumnSet a → IsColumnSet b → is_subset a b ≡ true → is_subset b a ≡ true → a ≡ b
 subset_same a b a_set b_set up down =
-    same_set a b (λ k. same_truth (has_column a k) (has_column b k) (subset_members a b k a_set up) (subset_members b a k b_set down))
+    same_set a b (λ k. both_ways (has_column a k) (has_column b k) (subset_members a b k a_set up) (subset_members b a k b_set down))
 
 -- a test that implies another keeps fewer, or the same
 fewer_kept : (p q : ℕ → Bool) (xs : List ℕ) → ((k : ℕ) → p k ≡ true → q k ≡ true)

@@ -37,6 +37,3 @@ pub use laws::{
     the_cover_implies_the_same, the_cover_is_computed, the_cover_is_in_each_equal,
     the_rule_tells_the_cover,
 };
-
-#[cfg(test)]
-mod tests;

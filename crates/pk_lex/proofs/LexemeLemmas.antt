@@ -19,7 +19,7 @@ use Rattle.pk_lex.proofs.SymbolLemmas.{symbol_at_fits}
 
 -- Bytes.
 
-continues_if_begins : (b : ℕ) → begins_word b ≡ true → continues_word b ≡ true
+pub continues_if_begins : (b : ℕ) → begins_word b ≡ true → continues_word b ≡ true
 continues_if_begins b h = grind (arith, nat_tests)
 
 blank_if_begins : (b : ℕ) → begins_word b ≡ true → is_blank b ≡ false

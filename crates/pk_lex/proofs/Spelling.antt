@@ -4,7 +4,7 @@ use Rattle.std.specs.Prelude.{codes, Some, None}
 use Rattle.std.specs.List.{list_all, prefix_len, flat_map, filter_map, join_by, slice_split}
 use Rattle.std.specs.Char.{is_ascii_digit, to_ascii_lowercase}
 use Rattle.std.proofs.lemmas.List.{map-append}
-use Rattle.std.proofs.lemmas.Bool.{and_parts, and_from}
+use Rattle.std.proofs.lemmas.Bool.{and_parts, and_from, not-true}
 use Rattle.std.proofs.lemmas.Bool.Decides.{nat_tests}
 use Rattle.std.proofs.Math.Seq.{take-append_seam, drop-append_seam}
 use Rattle.std.proofs.lemmas.List.Sums.{take_while-cons, sum_by-cons}
@@ -19,7 +19,7 @@ use Rattle.pk_lex.specs.Tokens.{ends_piece, is_number}
 use Rattle.pk_lex.specs.Lexemes.{begins_word, continues_word, lexeme_at, more_at, front_of, line_feeds, lexemes_from, lexemes}
 use Rattle.pk_lex.specs.Symbols.{symbol_at}
 use Rattle.pk_lex.specs.Pieces.{is_solid, is_end, first_fault, tokens_of, piece_of, pieces}
-use Rattle.pk_lex.proofs.LexemeLemmas.{front_of_word, front_of_number, lexemes_from-front}
+use Rattle.pk_lex.proofs.LexemeLemmas.{front_of_word, front_of_number, lexemes_from-front, continues_if_begins}
 
 -- the lexemes of the bytes, without the gaps
 abbrev pub solids : ℕ → List ℕ → List (ℕ × Lexeme)
@@ -120,9 +120,6 @@ no_feed_in_number b h = grind (arith, nat_tests)
 word_if_name : (b : ℕ) → begins_name b ≡ true → begins_word b ≡ true
 word_if_name b h = grind (arith, nat_tests)
 
-more_if_word : (b : ℕ) → begins_word b ≡ true → continues_word b ≡ true
-more_if_word b h = grind (arith, nat_tests)
-
 more_if_begins : (b : ℕ) → begins_name b ≡ true → continues_name b ≡ true
 more_if_begins b h = grind (arith, nat_tests)
 
@@ -164,7 +161,7 @@ breaks_numbers (b ∷ bs) breaks = go (is_ascii_digit b) refl
 -- a word spells itself in small letters
 pub spells_word : (b : ℕ) (bs : List ℕ) → begins_word b ≡ true → list_all continues_word bs ≡ true → Spells Breaks (b ∷ bs) (Word (folded (b ∷ bs)) ∷ [])
 spells_word b bs begins more =
-    let word : list_all continues_word (b ∷ bs) ≡ true = and_from (continues_word b) (list_all continues_word bs) (more_if_word b begins) more in
+    let word : list_all continues_word (b ∷ bs) ≡ true = and_from (continues_word b) (list_all continues_word bs) (continues_if_begins b begins) more in
     record {
       spelled = λ line rest breaks.
           let taken : take_while continues_word ((b ∷ bs) ++ rest) ≡ b ∷ bs = all_taken continues_word (b ∷ bs) rest word (breaks_words rest breaks) in
@@ -230,12 +227,8 @@ split_at_end : (ts : List Token) → list_all (λ t. not (ends_piece t)) ts ≡ 
 split_at_end [] goes_on = refl
 split_at_end (t ∷ ts) goes_on =
     let parts = and_parts (not (ends_piece t)) (list_all (λ t. not (ends_piece t)) ts) goes_on in
-    let open_end : ends_piece t ≡ false = is_false (ends_piece t) parts.0 in
+    let open_end : ends_piece t ≡ false = not-true (ends_piece t) parts.0 in
     rw (open_end, split_at_end ts parts.1) refl
-  where
-    is_false : (b : Bool) → not b ≡ true → b ≡ false
-    is_false false e = refl
-    is_false true e = absurd cc
 
 no_fault : (ts : List Token) → first_fault (on_line 1 ts) ≡ None
 no_fault [] = refl

@@ -7,17 +7,10 @@ use Rattle.std.proofs.lemmas.Bool.Decides.{nat_tests, Decides-eqb}
 use Rattle.pk_lex.specs.declared.token.Symbol.{Symbol}
 use Rattle.pk_lex.specs.Symbols.{spelling, symbols, symbol_at}
 use Rattle.pk_lex.specs.Matching.{single_symbol, double_symbol}
+use Rattle.std.proofs.Math.Bool.{and-true, and-false}
 
 eqb_flip : (n b : ℕ) → eqb n b ≡ eqb b n
 eqb_flip n b = grind (arith, nat_tests)
-
-and-true : (p : Bool) → (p && true) ≡ p
-and-true true = refl
-and-true false = refl
-
-and-false : (p : Bool) → (p && false) ≡ false
-and-false true = refl
-and-false false = refl
 
 -- a test of one byte, as `starts_with` makes it
 one_byte : (n b : ℕ) → (eqb n b && true) ≡ eqb b n

@@ -26,6 +26,3 @@ pub use laws::{
 pub use lexing::lex;
 pub use piece::{Body, Piece};
 pub use token::{Symbol, Token};
-
-#[cfg(test)]
-mod tests;

@@ -1,7 +1,7 @@
 -- A condition over the kinds of a row's columns may be judged on the row.
-use Rattle.std.proofs.Common.{◌≡◌, refl, sym, ◌∙◌, subst, ℕ, zero, suc, ◌<◌, Bool, true, false, ◌&&◌, List, [], ◌∷◌, map, length, Option, Some, None, arith, nat_lt}
+use Rattle.std.proofs.Common.{◌≡◌, refl, sym, ◌∙◌, subst, ℕ, zero, suc, ◌<◌, Bool, true, ◌&&◌, List, [], ◌∷◌, map, length, Option, Some, None, arith, nat_lt}
 use Rattle.std.specs.Prelude.{not}
-use Rattle.std.proofs.lemmas.Bool.{lt-ltb}
+use Rattle.std.proofs.lemmas.Bool.{lt-ltb, and_parts, and_from}
 use Rattle.pk_values.specs.declared.kind.Kind.{Kind}
 use Rattle.pk_values.specs.declared.kind.Kind.TheVariants as kinds
 use Rattle.pk_values.specs.declared.value.Value.{Value}
@@ -18,25 +18,13 @@ use Rattle.pk_logic.specs.Conditions.{side_value, side_fits, differ_in_kind, can
 use Rattle.pk_logic.specs.Kinds.{kind_at, is_of_kind, side_is_of_kind, compares_one_kind, is_column, over_kinds_step, is_over_kinds}
 use Rattle.pk_logic.proofs.Members.{first_holds, rest_holds}
 
-both : (a b : Bool) → a ≡ true → b ≡ true → (a && b) ≡ true
-both true b first second = second
-both false b first second = cc
-
-first_of_two : (a b : Bool) → (a && b) ≡ true → a ≡ true
-first_of_two true b holds = refl
-first_of_two false b holds = cc
-
-second_of_two : (a b : Bool) → (a && b) ≡ true → b ≡ true
-second_of_two true b holds = holds
-second_of_two false b holds = cc
-
 -- ---- columns
 
 below : (ks : List Kind) (row : List Value) (c : ℕ) (kind : Kind) → fits_kinds ks row ≡ true → kind_at ks c ≡ Some kind → c < length row
 below [] row c kind fits there = cc
 below (k ∷ ks) [] c kind fits there = cc
 below (k ∷ ks) (v ∷ vs) zero kind fits there = omega arith
-below (k ∷ ks) (v ∷ vs) (suc c) kind fits there = omega (arith, below ks vs c kind (second_of_two (fits_kind k v) (fits_kinds ks vs) fits) there)
+below (k ∷ ks) (v ∷ vs) (suc c) kind fits there = omega (arith, below ks vs c kind (and_parts (fits_kind k v) (fits_kinds ks vs) fits).1 there)
 
 column_fits : (ks : List Kind) (row : List Value) (c : ℕ) (kind : Kind) → fits_kinds ks row ≡ true → kind_at ks c ≡ Some kind
     → fits_kind kind (value_at row c) ≡ true
@@ -44,8 +32,8 @@ column_fits [] row c kind fits there = cc
 column_fits (k ∷ ks) [] c kind fits there = cc
 column_fits (k ∷ ks) (v ∷ vs) zero kind fits there =
     let same : k ≡ kind = cc in
-    subst (λ x. fits_kind x v ≡ true) same (first_of_two (fits_kind k v) (fits_kinds ks vs) fits)
-column_fits (k ∷ ks) (v ∷ vs) (suc c) kind fits there = column_fits ks vs c kind (second_of_two (fits_kind k v) (fits_kinds ks vs) fits) there
+    subst (λ x. fits_kind x v ≡ true) same (and_parts (fits_kind k v) (fits_kinds ks vs) fits).0
+column_fits (k ∷ ks) (v ∷ vs) (suc c) kind fits there = column_fits ks vs c kind (and_parts (fits_kind k v) (fits_kinds ks vs) fits).1 there
 
 is_there : (found : Option Kind) (kind : Kind) → is_of_kind found kind ≡ true → found ≡ Some kind
 is_there None kind holds = cc
@@ -81,8 +69,8 @@ may_compare : (ks : List Kind) (row : List Value) (column : ℕ) (side : Side) (
     → kind_at ks column ≡ found → fits_kinds ks row ≡ true → compares_one_kind ks found side ≡ true → can_compare row column side ≡ true
 may_compare ks row column side None there fits holds = cc
 may_compare ks row column side (Some kind) there fits holds =
-    both (nat_lt column (length row) && side_fits row side) _
-    (both (nat_lt column (length row)) (side_fits row side) (lt-ltb column (length row) (below ks row column kind fits there)) (side_within ks row side kind fits holds))
+    and_from (nat_lt column (length row) && side_fits row side) _
+    (and_from (nat_lt column (length row)) (side_fits row side) (lt-ltb column (length row) (below ks row column kind fits there)) (side_within ks row side kind fits holds))
     (one_kind kind (value_at row column) (side_value row side) (column_fits ks row column kind fits there) (side_of_kind ks row side kind fits holds))
 
 is_within : (ks : List Kind) (row : List Value) (column : ℕ) (found : Option Kind)
@@ -106,7 +94,7 @@ all_may : (ks : List Kind) (row : List Value) (parts : List (Part ks row))
 all_may ks row [] over = refl
 all_may ks row (p ∷ ps) over =
     let tests = map (is_over_kinds ks) (conds ks row ps) in
-    both (is_judgeable row p.0) (all_hold (map (is_judgeable row) (conds ks row ps)))
+    and_from (is_judgeable row p.0) (all_hold (map (is_judgeable row) (conds ks row ps)))
     (p.1 (first_holds (is_over_kinds ks p.0) tests over))
     (all_may ks row ps (rest_holds (is_over_kinds ks p.0) tests over))
 

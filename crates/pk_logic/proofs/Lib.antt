@@ -2,6 +2,5 @@ pub mod Filling
 pub mod KindLemmas
 pub mod Layers
 pub mod Members
-pub mod RowLemmas
 pub mod TableLemmas
 pub mod TruthLemmas

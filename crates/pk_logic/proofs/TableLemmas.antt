@@ -14,6 +14,7 @@ use Rattle.pk_logic.specs.Truth.{truth_of, opposite, lesser, greater, least, gre
 use Rattle.pk_logic.specs.Conditions.{op_holds, compared, null_test, side_value, truth}
 use Rattle.pk_logic.specs.Laws.{is_true, is_false, operators, by_each_operator}
 use Rattle.pk_logic.proofs.Layers.{truth-Compare, truth-Not}
+use Rattle.pk_values.proofs.ListLemmas.{map_same}
 
 -- a test for null is never unknown
 pub null_test_known : (negated : Bool) (v : Value) → null_test negated v ≡ Unknown → ⊥
@@ -106,12 +107,8 @@ opposite-greatest row (m ∷ ms) =
 abbrev pub table : Bool → Ordering → List Truth
 table null order = map (λ op. if null then Unknown else truth_of (op_holds op order)) operators
 
-map-same : {X Y : Type 0} (f g : X → Y) → ((x : X) → f x ≡ g x) → (xs : List X) → map f xs ≡ map g xs
-map-same f g same [] = refl
-map-same f g same (x ∷ xs) = ap (λ y. y ∷ map f xs) (same x) ∙ ap (λ ys. g x ∷ ys) (map-same f g same xs)
-
 pub by_each_is_table : (row : List Value) (column : ℕ) (with : Side)
     → by_each_operator row column with
     ≡ table (is_null (value_at row column) || is_null (side_value row with)) (value_cmp (value_at row column) (side_value row with))
 by_each_is_table row column with =
-    map-same _ (λ op. compared op (value_at row column) (side_value row with)) (λ op. truth-Compare row column op with) operators
+    map_same _ (λ op. compared op (value_at row column) (side_value row with)) (λ op. truth-Compare row column op with) operators

@@ -28,6 +28,3 @@ pub use laws::{
     null_tests_change, order_decides,
 };
 pub use truth::Truth;
-
-#[cfg(test)]
-mod tests;

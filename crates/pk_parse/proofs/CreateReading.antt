@@ -1,7 +1,7 @@
 -- The parts of a CREATE TABLE read as what they are, where no mark follows them.
-use Rattle.std.proofs.Common.{◌≡◌, ℕ, zero, suc, ◌≤◌, Bool, true, false, leb, List, [], ◌∷◌, ◌++◌, length, Some, None, inl, inr, refl, sym, ap, subst, ◌∙◌, append_assoc, arith}
+use Rattle.std.proofs.Common.{◌≡◌, ℕ, zero, suc, ◌≤◌, true, false, leb, List, [], ◌∷◌, ◌++◌, length, Some, None, inl, inr, refl, sym, ap, subst, ◌∙◌, append_assoc, arith}
 use Rattle.std.specs.Prelude.{codes, ◌&&◌}
-use Rattle.std.proofs.lemmas.Bool.{leb-true, le-leb}
+use Rattle.std.proofs.lemmas.Bool.{leb-true, le-leb, and_parts}
 use Rattle.std.proofs.lemmas.List.{length-append}
 use Rattle.std.proofs.lemmas.Option.{some_pair_parts, cond_some}
 use Rattle.pk_values.specs.declared.key.Sort.{Sort}
@@ -32,17 +32,8 @@ use Rattle.pk_parse.proofs.PartReading.{names_read}
 length_found : (n m : ℕ) → length_within n ≡ Some m → (1 ≤ n) × (n ≤ 255) × (n ≡ m)
 length_found n m e =
     let within = cond_some (leb 1 n && leb n 255) n m e in
-    let least : leb 1 n ≡ true = both (leb 1 n) (leb n 255) within.0 in
-    let most : leb n 255 ≡ true = both_second (leb 1 n) (leb n 255) within.0 in
-    (leb-true 1 n least, leb-true n 255 most, within.1)
-  where
-    both : (a b : Bool) → (a && b) ≡ true → a ≡ true
-    both true b e = refl
-    both false b e = absurd cc
-
-    both_second : (a b : Bool) → (a && b) ≡ true → b ≡ true
-    both_second true b e = e
-    both_second false b e = absurd cc
+    let both = and_parts (leb 1 n) (leb n 255) within.0 in
+    (leb-true 1 n both.0, leb-true n 255 both.1, within.1)
 
 varchar_front : (tokens : List Token) (f : ColumnForm) (rest : List Token) → varchar_at tokens ≡ Some (f, rest) → Front (λ ts form. IsForm (Word (codes "varchar") ∷ ts) form) tokens f rest
 unfolding varchar_at

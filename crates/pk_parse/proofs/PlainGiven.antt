@@ -1,7 +1,7 @@
 -- What the parts of a CREATE TABLE declare is plain.
-use Rattle.std.proofs.Common.{◌≡◌, ℕ, Bool, true, false, ◌&&◌, not, List, [], ◌∷◌, map, Some, refl, subst, ◌∙◌}
+use Rattle.std.proofs.Common.{◌≡◌, ℕ, Bool, true, ◌&&◌, not, List, [], ◌∷◌, map, Some, refl, subst, ◌∙◌}
 use Rattle.std.specs.List.{list_all, filter_map, flat_map}
-use Rattle.std.proofs.lemmas.Bool.{le-leb}
+use Rattle.std.proofs.lemmas.Bool.{le-leb, and_parts}
 use Rattle.std.proofs.lemmas.List.Folds.{list_all-append}
 use Rattle.pk_lex.specs.declared.token.Token.{Token}
 use Rattle.pk_parse.specs.declared.statement.Statement.{Statement}
@@ -19,7 +19,7 @@ use Rattle.pk_parse.specs.Words.{is_reserved}
 use Rattle.pk_parse.specs.Create.{key_of_mark, keys_of_part, keys_of, columns_of, declared_columns, declared_by, declared}
 use Rattle.pk_parse.specs.Declarations.{names_of, is_plain_length, is_plain}
 use Rattle.pk_parse.specs.LiteralGrammar.{IsFree}
-use Rattle.pk_parse.specs.Grammar.{Joined, InParens, IsName, IsNames, IsForm, IsKey, IsKeyPart, IsPart, IsStatement}
+use Rattle.pk_parse.specs.Grammar.{Joined, IsName, IsNames, IsForm, IsKey, IsKeyPart, IsPart, IsStatement}
 use Rattle.pk_parse.specs.Grammar as grammar
 use Rattle.pk_parse.specs.Given.{declares_plain}
 
@@ -73,10 +73,6 @@ part_fine tokens p (grammar.column name types more form marks free is are) = rw 
 part_fine tokens p (grammar.key ts k is) = key_part_free ts k is
 
 -- ---- from the parts to what they declare
-
-and_parts : (a b : Bool) → (a && b) ≡ true → (a ≡ true) × (b ≡ true)
-and_parts true b e = (refl, e)
-and_parts false b e = absurd cc
 
 columns_free : (parts : List TablePart) → list_all is_fine parts ≡ true → list_all (λ (c : ColumnText). is_free c.name) (columns_of parts) ≡ true
 columns_free [] fine = refl

@@ -16,7 +16,7 @@ either true b = refl
 either false b = refl
 
 -- with one more name the set has that name and those that it had
-set_gains : (name : Bor (List ℕ)) (old new : BTreeSet (Bor (List ℕ))) (column : List ℕ) → Updates (λ (a b : Bor (List ℕ)). slice_cmp nat_cmp a.now b.now) old new name true → has_name new column ≡ (bytes_eq name.now column || has_name old column)
+pub set_gains : (name : Bor (List ℕ)) (old new : BTreeSet (Bor (List ℕ))) (column : List ℕ) → Updates (λ (a b : Bor (List ℕ)). slice_cmp nat_cmp a.now b.now) old new name true → has_name new column ≡ (bytes_eq name.now column || has_name old column)
 set_gains name old new column updates =
     updates.0 (record name { now = column }) ∙ either (is_eq (slice_cmp nat_cmp name.now column)) (has_name old column) ∙ ap (λ b. b || has_name old column) (is_eq-slice_cmp name.now column)
 

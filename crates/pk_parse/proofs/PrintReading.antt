@@ -6,7 +6,7 @@ use Rattle.std.specs.List.{list_all, list_any, flat_map, filter_map, join_by}
 use Rattle.std.specs.Str.{all_ascii_digits}
 use Rattle.std.specs.Char.{is_ascii_digit}
 use Rattle.std.proofs.lemmas.List.{append-nil, map-id}
-use Rattle.std.proofs.lemmas.Bool.{and_parts, and_from}
+use Rattle.std.proofs.lemmas.Bool.{and_parts, and_from, not-true}
 use Rattle.std.proofs.lemmas.Bool.{leb-true, eqb-true}
 use Rattle.std.proofs.lemmas.Str.Parse.{IsNumeralModel, numerals_by_fold, tells_all_ascii_digits}
 use Rattle.std.proofs.lemmas.Fmt.{digits_decimal, digits_value-decimal, decimal_nonempty}
@@ -393,11 +393,7 @@ parts_declare table c cs ks =
 -- ---- the conditions, one by one
 
 free_if : (n : List ℕ) → not (is_reserved n) ≡ true → is_reserved n ≡ false
-free_if n e = go (is_reserved n) e
-  where
-    go : (b : Bool) → not b ≡ true → b ≡ false
-    go false e = refl
-    go true e = absurd cc
+free_if n e = not-true (is_reserved n) e
 
 are_plain : (cs : List ColumnDecl) (more : List (List ℕ)) → list_all is_name (names_of cs ++ more) ≡ true → list_all (λ n. not (is_reserved n)) (names_of cs ++ more) ≡ true
     → list_all (λ (c : ColumnDecl). is_plain_length c.kind c.max) cs ≡ true → ArePlain cs

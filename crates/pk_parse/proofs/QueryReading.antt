@@ -23,7 +23,7 @@ use Rattle.pk_parse.proofs.PartReading.{name_read}
 
 -- ---- what is asked for
 
-what_front : (tokens : List Token) (w : What) (rest : List Token) → what_at tokens ≡ Some (w, rest) → Front IsWhat tokens w rest
+pub what_front : (tokens : List Token) (w : What) (rest : List Token) → what_at tokens ≡ Some (w, rest) → Front IsWhat tokens w rest
 unfolding what_at count_at columns_at
 what_front tokens w rest e =
     elim (behind_cases (after_symbol Star tokens) _ _ _ e) [
@@ -83,9 +83,6 @@ what_back front w word rest grammar.count =
 what_back front w word rest (grammar.columns tokens names joined) =
     let begins = no_mark_before_names tokens names (Word word ∷ rest) joined in
     rw (begins.0, begins.1, list_again name_at IsName Anything name_read names tokens (Word word ∷ rest) (word_ends word rest) tt joined) refl
-
-pub what_found : (tokens : List Token) (w : What) (rest : List Token) → what_at tokens ≡ Some (w, rest) → Front IsWhat tokens w rest
-what_found tokens w rest e = what_front tokens w rest e
 
 -- ---- order
 

@@ -27,12 +27,12 @@ use Rattle.pk_parse.specs.Statements.{drop_at, session_at, show_at, implies_at, 
 use Rattle.pk_parse.specs.ConditionGrammar.{EndsCondition}
 use Rattle.pk_parse.specs.LiteralGrammar.{IsFree}
 use Rattle.pk_parse.specs.Grammar as grammar
-use Rattle.pk_parse.specs.Grammar.{IsName, InParens, Joined, IsNames, IsKey, IsTuple, IsSet, IsColumnList, IsOver, IsPart, IsWhat, IsOrder, IsStatement, ReadsTheGrammar}
+use Rattle.pk_parse.specs.Grammar.{InParens, Joined, IsKey, IsTuple, IsSet, IsColumnList, IsOver, IsPart, IsWhat, IsOrder, IsStatement, ReadsTheGrammar}
 use Rattle.pk_parse.proofs.Fronts.{bind_some, behind_cases, Front, fronted, word_found, word_again, symbol_again, name_found, name_again}
 use Rattle.pk_parse.proofs.CommaLists.{Anything, nothing_ends, list_found, list_again, parens_read}
 use Rattle.pk_parse.proofs.PartReading.{names_read, parens_name_read, tuple_read, set_read}
 use Rattle.pk_parse.proofs.CreateReading.{NoMark, key_read, part_read}
-use Rattle.pk_parse.proofs.QueryReading.{what_found, what_back, order_found, order_again}
+use Rattle.pk_parse.proofs.QueryReading.{what_front, what_back, order_found, order_again}
 use Rattle.pk_parse.proofs.WhereReading.{where_found, where_again, nothing_ends_where, order_ends_where, where_ends}
 
 -- the tokens spell the statement behind this first word
@@ -135,7 +135,7 @@ select_found tokens s rest e =
     let c = bind_some (name_at b.0) _ (s, rest) b.2 in
     let d = bind_some (where_at c.0.1) _ (s, rest) c.2 in
     let f = bind_some (order_of_at a.0.0 d.0.1) _ (s, rest) d.2 in
-    let what = what_found tokens a.0.0 a.0.1 a.1 in
+    let what = what_front tokens a.0.0 a.0.1 a.1 in
     let from = word_found (codes "from") a.0.1 b.0 b.1 in
     let name = name_found b.0 c.0.0 c.0.1 c.1 in
     let tests = where_found c.0.1 d.0.0 d.0.1 d.1 in

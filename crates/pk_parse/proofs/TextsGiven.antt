@@ -1,5 +1,5 @@
 -- Where each text among the tokens is UTF-8, so is each text of the statement that they spell.
-use Rattle.std.proofs.Common.{◌≡◌, ℕ, zero, suc, Bool, true, false, cond, ◌&&◌, not, List, [], ◌∷◌, ◌++◌, Option, refl, sym, ap, subst, ◌∙◌}
+use Rattle.std.proofs.Common.{◌≡◌, ℕ, zero, suc, Bool, true, false, cond, not, List, [], ◌∷◌, ◌++◌, Option, refl, sym, ap, subst, ◌∙◌}
 use Rattle.std.specs.Prelude.{◌-◌, ◌^◌, codes, pos, neg_ℤ, nat_le}
 use Rattle.std.specs.List.{list_all}
 use Rattle.std.proofs.lemmas.List.Folds.{list_all-append, list_all-map}
@@ -27,13 +27,10 @@ use Rattle.pk_parse.specs.LiteralGrammar.{IsLiteral, null, plain, negative, quot
 use Rattle.pk_parse.specs.ConditionGrammar.{IsOperand, JoinedBy, IsJoined, IsCondOf, IsUnitOver, IsUnit, IsCondition}
 use Rattle.pk_parse.specs.ConditionGrammar as conditions
 use Rattle.pk_parse.specs.Where.{IsWhere}
-use Rattle.pk_parse.specs.Grammar.{Joined, InParens, IsTuple, IsSet, IsStatement}
+use Rattle.pk_parse.specs.Grammar.{Joined, IsTuple, IsSet, IsStatement}
 use Rattle.pk_parse.specs.Grammar as grammar
 use Rattle.pk_parse.specs.Given.{has_utf8, operand_has_utf8, test_step, test_has_utf8, cond_has_utf8, texts_are_utf8}
-
-pub and_parts : (a b : Bool) → (a && b) ≡ true → (a ≡ true) × (b ≡ true)
-and_parts true b e = (refl, e)
-and_parts false b e = absurd cc
+use Rattle.std.proofs.lemmas.Bool.{and_parts}
 
 -- each is a token
 abbrev pub AreTokens : List Token → Type 0

@@ -253,6 +253,3 @@ fn column_operand_of(tokens: &[Token]) -> Result<(Operand, &[Token]), Miss>
     let (column, behind) = name_of(tokens)?;
     Ok((Operand::Column(column), behind))
 }
-
-#[cfg(test)]
-mod tests;

@@ -41,6 +41,3 @@ pub use printing::{declarations_at_their_edges, print_table, printed_tables_read
 pub use query::{OrderPart, Select, What};
 pub use statement::Statement;
 pub use words::is_reserved;
-
-#[cfg(test)]
-mod tests;

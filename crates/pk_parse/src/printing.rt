@@ -164,6 +164,3 @@ fn write_number(out: &mut Vec<u8>, n: u8) -> Result<(), Memory>
 {
     write!(out, "{n}").map_err(|_| Memory)
 }
-
-#[cfg(test)]
-mod tests;

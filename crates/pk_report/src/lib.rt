@@ -17,6 +17,3 @@ pub use example::Example;
 pub use laws::{refusals_are_spelled, replies_are_spelled};
 pub use reply::Reply;
 pub use reporting::reply_text;
-
-#[cfg(test)]
-mod tests;

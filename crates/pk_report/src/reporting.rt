@@ -1,7 +1,7 @@
 ghost use Rattle.std.specs.Prelude.{◌≡◌, ◌++◌, codes, IfOk, OnOk};
 ghost use Rattle.std.specs.List.{flat_map};
 ghost use Rattle.pk_report.specs.Part.{part_text};
-ghost use Rattle.pk_report.specs.Text.{row_text, selected_text, count_text, line, steps_text, implied_text, cover_text, examples_text, sets_text, text};
+ghost use Rattle.pk_report.specs.Text.{row_text, selected_text, count_text, line, pair_text, steps_text, implied_text, cover_text, examples_text, sets_text, text};
 
 use crate::example::Example;
 use crate::keys::{write_cases, write_keys, write_sets};
@@ -35,15 +35,7 @@ pub fn reply_text(alloc: Global, reply: &Reply) -> Result<Vec<u8>, Memory>
         Reply::InSession { name } => one_line(alloc, &[Words(b"session "), Named(name)]),
         Reply::Shown { text } => one_line(alloc, &[Words(text.as_slice())]),
         Reply::Implied { key, rules } => implied(alloc, *key, rules.as_slice()),
-        Reply::NotImplied { low, high } => one_line(
-            alloc,
-            &[
-                Words(b"not implied: rows "),
-                Values(low.as_slice()),
-                Words(b" and "),
-                Values(high.as_slice()),
-            ],
-        ),
+        Reply::NotImplied { low, high } => not_implied(alloc, low.as_slice(), high.as_slice()),
         Reply::Cover { columns, keys } => cover(alloc, columns.as_slice(), keys.as_slice()),
         Reply::Examples { columns, cases } => {
             examples(alloc, columns.as_slice(), cases.as_slice())
@@ -102,6 +94,21 @@ fn counted(alloc: Global, n: u64) -> Result<Vec<u8>, Memory>
     write_line(&mut out, &[Number(n)])?;
     write_line(&mut out, &[Words(b"rows 1")])?;
     Ok(out)
+}
+
+// The two rows that refute a key.
+fn not_implied<'a>(alloc: Global, low: &'a [Value], high: &'a [Value]) -> Result<Vec<u8>, Memory>
+    ensures { IfOk result (λ v. v.items ≡ line (codes "not implied: rows " ++ pair_text low.now high.now)) }
+{
+    one_line(
+        alloc,
+        &[
+            Words(b"not implied: rows "),
+            Values(low),
+            Words(b" and "),
+            Values(high),
+        ],
+    )
 }
 
 // The declared key, and the steps that lead from it.

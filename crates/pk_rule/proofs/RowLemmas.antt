@@ -15,7 +15,7 @@ use Rattle.pk_similar.specs.Similarity.{weak_entries, strong_entries, weak, stro
 use Rattle.pk_rule.specs.Plain.{Plain}
 use Rattle.pk_rule.specs.Tables.{is_known_on}
 use Rattle.pk_rule.specs.TwoRows.{mark, is_left_null, low_entry, high_entry, row_from, low_row, high_row}
-use Rattle.pk_rule.proofs.ColumnLemmas.{all_members, same_on_members, member_below}
+use Rattle.pk_values.proofs.ColumnLemmas.{all_members, same_on_members, member_below}
 
 -- ---- rows by their entries
 

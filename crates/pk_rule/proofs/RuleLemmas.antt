@@ -1,17 +1,16 @@
 -- The rule, from the steps one way and from the two rows the other.
-use Rattle.std.proofs.Common.{◌≡◌, refl, sym, ◌∙◌, subst, ℕ, suc, ◌^◌, ◌<◌, ◌≤◌, Bool, true, false, not, ◌&&◌, ◌||◌, List, [], ◌∷◌, length, inl, inr, arith}
+use Rattle.std.proofs.Common.{◌≡◌, refl, sym, ◌∙◌, subst, ℕ, suc, ◌^◌, ◌<◌, Bool, true, false, not, ◌&&◌, ◌||◌, List, [], ◌∷◌, length, inl, inr, arith}
 use Rattle.std.specs.Prelude.{Some, slice_get}
 use Rattle.std.specs.List.{list_any, All}
 use Rattle.std.proofs.lemmas.Bool.{and_from, or_parts, cases_Bool, both_ways}
 use Rattle.std.proofs.lemmas.List.Elements.{All-nil, All-cons, All-head, All-tail}
 use Rattle.std.proofs.lemmas.Option.{get_or_from_slice_get, slice_get_within}
-use Rattle.std.proofs.Math.Pow.{pow_mono}
 use Rattle.pk_values.specs.declared.key.KeyDecl.{KeyDecl}
 use Rattle.pk_values.specs.declared.key.Sort.{Sort}
 use Rattle.pk_values.specs.declared.key.Sort.TheVariants as sorts
 use Rattle.pk_values.specs.declared.kind.Kind.{Kind}
 use Rattle.pk_values.specs.declared.value.Value.{Value}
-use Rattle.pk_values.specs.ColumnSet.{IsColumnSet, columns, is_subset}
+use Rattle.pk_values.specs.ColumnSet.{columns, is_subset}
 use Rattle.pk_values.specs.Values.{fits_kinds}
 use Rattle.pk_parse.specs.Declarations.{is_certain}
 use Rattle.pk_similar.specs.Laws.{all_fit}
@@ -22,18 +21,12 @@ use Rattle.pk_rule.specs.Tables.{HoldsAs, KeyHolds, KeysHold, TableOf, Implied, 
 use Rattle.pk_rule.specs.Rule.{alone_implies, is_implied}
 use Rattle.pk_rule.specs.TwoRows.{low_row, high_row}
 use Rattle.pk_rule.specs.Laws.{with_key}
-use Rattle.pk_rule.proofs.ColumnLemmas.{columns_below, subset_itself}
 use Rattle.pk_rule.proofs.StepLemmas.{step_holds}
 use Rattle.pk_rule.proofs.RowLemmas.{low_row_fits, high_row_fits, low_row_known, high_row_known, two_rows_weak, two_rows_strong}
+use Rattle.pk_values.proofs.ColumnLemmas.{set_bounded, columns_below, subset_itself}
 
 abbrev Inside : ℕ → KeyDecl → Type 0
 Inside n = λ (k : KeyDecl). k.columns < 2 ^ n
-
--- a set of so few columns is one
-column_set : (set n : ℕ) → n ≤ 32 → set < 2 ^ n → IsColumnSet set
-column_set set n few small =
-    let most : 2 ^ n ≤ 2 ^ 32 = pow_mono few in
-    omega (arith, most, small)
 
 -- ---- what the rule names holds
 
@@ -41,8 +34,8 @@ alone_holds :
     (s : Plain) (d k : KeyDecl) (rows : List (List Value)) → IsPlain s → k.columns < 2 ^ length s.kinds → all_fit s.kinds rows ≡ true → all_known s.known rows ≡ true
     → alone_implies s.known d k ≡ true → KeyHolds s.kinds rows d → KeyHolds s.kinds rows k
 alone_holds s d k rows plain inside fit known implies holds =
-    step_holds s.kinds rows s.known d.sort k.sort d.columns k.columns (column_set s.known (length s.kinds) plain.few_columns plain.known_inside)
-    (column_set k.columns (length s.kinds) plain.few_columns inside) fit known implies holds
+    step_holds s.kinds rows s.known d.sort k.sort d.columns k.columns (set_bounded s.known (length s.kinds) plain.few_columns plain.known_inside)
+    (set_bounded k.columns (length s.kinds) plain.few_columns inside) fit known implies holds
 
 some_holds :
     (s : Plain) (k : KeyDecl) (rows : List (List Value)) (keys : List KeyDecl) → IsPlain s → k.columns < 2 ^ length s.kinds → all_fit s.kinds rows ≡ true → all_known s.known rows ≡ true
@@ -137,7 +130,7 @@ two_rows_are_table s k plain none = (
 )
 
 -- a key alone implies itself
-itself_implied : (known : ℕ) (k : KeyDecl) → alone_implies known k k ≡ true
+pub itself_implied : (known : ℕ) (k : KeyDecl) → alone_implies known k k ≡ true
 itself_implied known k = rw (subset_itself k.columns) (either (is_certain k.sort) (is_subset k.columns known))
   where
     either : (a b : Bool) → (not a || a || b) ≡ true

@@ -1,3 +1,2 @@
-pub mod ServedIsAnswered
 pub mod Runs
 pub mod EngineLaws

@@ -1,6 +1,5 @@
 pub mod Words
 pub mod Status
-pub mod Served
 pub mod Told
 pub mod Run
 pub mod Laws

@@ -14,8 +14,7 @@ use Rattle.pk_report.specs.Text.{text}
 use Rattle.pk_engine.specs.Base.{Base}
 use Rattle.pk_engine.specs.State.{State, started}
 use Rattle.pk_engine.specs.Refusing.{Step}
-use Rattle.pk_engine.specs.Answer.{answer}
-use Rattle.pk_run.specs.Served.{is_served}
+use Rattle.pk_engine.specs.Answer.{answer, is_answered}
 
 -- a refusal, and the state as it was
 abbrev pub refused : State → Refusal → Step
@@ -30,7 +29,7 @@ refusal_of line faults.Memory = NotStatement line
 
 -- the answer to what a piece on this line says
 abbrev pub answer_to : State → ℕ → Result Statement ParseErr → Step
-answer_to st line (Ok s) = if is_served s then answer st s else refused st (NotStatement line)
+answer_to st line (Ok s) = if is_answered s then answer st s else refused st (NotStatement line)
 answer_to st line (Err e) = refused st (refusal_of line e)
 
 -- the answer to a piece

@@ -10,16 +10,11 @@
 mod laws;
 mod running;
 mod scripts;
-mod serving;
 mod status;
 mod top;
 
 pub use laws::{
     edges_are_told, example_is_told, fronts_are_fronts, refusals_change_nothing, runs_in_halves,
 };
-pub use serving::served;
 pub use status::Status;
 pub use top::run_keytab;
-
-#[cfg(test)]
-mod tests;

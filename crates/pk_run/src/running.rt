@@ -7,8 +7,7 @@ ghost use Rattle.pk_report.specs.Text.{text};
 ghost use Rattle.pk_run.specs.Told.{step, run, told_by, is_refusal, has_refusal};
 ghost use Rattle.pk_run.specs.Run.{Takes, TakesFront};
 
-use crate::serving::served;
-use pk_engine::Engine;
+use pk_engine::{Engine, is_answered};
 use pk_lex::Piece;
 use pk_parse::{ParseErr, parse};
 use pk_report::{Reply, reply_text};
@@ -96,7 +95,7 @@ fn answer_and_tell<W: Station>(
 }
 
 // The reply to a piece. After an `Err` nothing is claimed of the engine.
-#[tactic(auto, using(crate::proofs::ServedIsAnswered::answered_when_served), unfolding(crate::specs::Told::step))]
+#[tactic(auto, unfolding(crate::specs::Told::step))]
 fn answer_piece(alloc: Global, engine: &mut Engine, piece: &Piece) -> Result<Reply, Memory>
     requires stands { (st : State) × StandsFor engine.old st }
     requires lexed { IsTrue (is_lexed piece.now) }
@@ -105,7 +104,7 @@ fn answer_piece(alloc: Global, engine: &mut Engine, piece: &Piece) -> Result<Rep
 {
     match parse(alloc, piece) {
         Ok(statement) => {
-            if served(&statement) {
+            if is_answered(&statement) {
                 engine.step(&statement)
             } else {
                 Ok(not_statement(piece.line))

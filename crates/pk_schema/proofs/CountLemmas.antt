@@ -1,5 +1,5 @@
 -- How many columns of a set pass a test.
-use Rattle.std.proofs.Common.{◌≡◌, refl, ◌∙◌, ap, subst, ℕ, zero, suc, ◌+◌, ◌≤◌, Bool, true, false, not, ◌&&◌, List, [], ◌∷◌, length, inl, inr, slice_get, arith}
+use Rattle.std.proofs.Common.{◌≡◌, refl, ◌∙◌, ap, subst, ℕ, zero, suc, ◌+◌, ◌≤◌, Bool, false, not, ◌&&◌, List, [], ◌∷◌, length, inl, inr, slice_get, arith}
 use Rattle.std.specs.Option.{option_map_or}
 use Rattle.std.specs.List.{filter, range_with_len}
 use Rattle.std.proofs.lemmas.Bool.{cases_Bool}
@@ -8,6 +8,7 @@ use Rattle.pk_values.proofs.RangeLemmas.{filter_twice}
 use Rattle.pk_parse.specs.declared.declaration.ColumnDecl.{ColumnDecl}
 use Rattle.pk_schema.specs.Shapes.{set_where}
 use Rattle.pk_schema.proofs.SetLemmas.{has_first, has_next, has_none}
+use Rattle.std.proofs.Math.Bool.{and_comm}
 
 -- whether there is a column at this place and it passes
 abbrev pub passes_at : (ColumnDecl → Bool) → List ColumnDecl → ℕ → Bool
@@ -47,13 +48,7 @@ both_at p q (c ∷ cs) (suc k) = both_at p q cs k
 
 swapped : (p q : ColumnDecl → Bool) (cs : List ColumnDecl) → filter (λ c. p c && not (q c)) cs ≡ filter (λ c. not (q c) && p c) cs
 swapped p q [] = refl
-swapped p q (c ∷ cs) = rw (and_swaps (p c) (not (q c)), swapped p q cs) refl
-  where
-    and_swaps : (a b : Bool) → (a && b) ≡ (b && a)
-    and_swaps true true = refl
-    and_swaps true false = refl
-    and_swaps false true = refl
-    and_swaps false false = refl
+swapped p q (c ∷ cs) = rw (and_comm (p c) (not (q c)), swapped p q cs) refl
 
 -- the columns of one set that another lacks are as many as the columns that pass the one test and not the other
 pub count_without : (p q : ColumnDecl → Bool) (cs : List ColumnDecl) → length cs ≤ 32

@@ -1,8 +1,7 @@
 -- Rows with which nothing is wrong.
-use Rattle.std.proofs.Common.{◌≡◌, refl, sym, ◌∙◌, ap, ℕ, suc, ◌+◌, ◌≤◌, ◌==◌, Bool, true, false, not, ◌&&◌, List, [], ◌∷◌, Option, Some, None, length, nat_lt, nat_le, cond, inl, inr, if◌then◌else◌, arith}
-use Rattle.std.specs.List.{list_all, position, prefix_len, zip}
-use Rattle.std.specs.Option.{option_map}
-use Rattle.std.proofs.lemmas.Bool.{and_parts, cases_lt, lt-ltb, le-ltb, leb-true, le-leb, eqb-true, eq-eqb}
+use Rattle.std.proofs.Common.{◌≡◌, refl, sym, ◌∙◌, ◌==◌, Bool, true, false, not, List, [], ◌∷◌, Option, Some, None, length, nat_le, if◌then◌else◌, arith}
+use Rattle.std.specs.List.{list_all, zip}
+use Rattle.std.proofs.lemmas.Bool.{leb-true, le-leb, eqb-true, eq-eqb}
 use Rattle.pk_values.specs.declared.value.Value.{Value}
 use Rattle.pk_values.specs.Values.{fits_kind, fits_kinds}
 use Rattle.pk_values.specs.Records.{row_record}
@@ -12,41 +11,7 @@ use Rattle.pk_schema.specs.declared.admitting.RowFault.{RowFault}
 use Rattle.pk_schema.specs.Shapes.{Shape, kinds_of}
 use Rattle.pk_schema.specs.Admits.{Admits, has_other_kind, is_long, is_missing, first_wrong, width_fault, kind_fault, long_fault, null_fault, size_fault, row_fault}
 use Rattle.pk_schema.specs.Laws.{FitsShape}
-
--- ---- no element passes
-
-all_reached : {X : Type 0} (q : X → Bool) (xs : List X) → length xs ≤ prefix_len q xs → list_all q xs ≡ true
-all_reached q [] far = refl
-all_reached q (x ∷ xs) far = step (q x) (all_reached q xs) far
-  where
-    step : (b : Bool) → (length xs ≤ prefix_len q xs → list_all q xs ≡ true) → suc (length xs) ≤ cond b (1 + prefix_len q xs) 0 → (b && list_all q xs) ≡ true
-    step true rest far = rest (omega (arith, far))
-    step false rest far = absurd (omega (arith, far))
-
-reached_all : {X : Type 0} (q : X → Bool) (xs : List X) → list_all q xs ≡ true → prefix_len q xs ≡ length xs
-reached_all q [] all = refl
-reached_all q (x ∷ xs) all =
-    let parts = and_parts (q x) (list_all q xs) all in
-    let rest = reached_all q xs parts.1 in
-    rw parts.0 (omega (arith, rest))
-
-ends_past : (n m : ℕ) → cond (nat_lt n m) (Some n) None ≡ None → m ≤ n
-ends_past n m none = elim (cases_lt n m) [
-  | inl low ↦ absurd (some_is_none n (ap (λ b. cond b (Some n) None) (sym (lt-ltb n m low)) ∙ none))
-  | inr high ↦ high
-]
-  where
-    some_is_none : (n : ℕ) → Some n ≡ None → ⊥
-    some_is_none n same = cc
-
-none_passes : {X : Type 0} (p : X → Bool) (xs : List X) → position p xs ≡ None → list_all (λ x. not (p x)) xs ≡ true
-none_passes p xs none = all_reached (λ x. not (p x)) xs (ends_past _ _ none)
-
-no_place : {X : Type 0} (p : X → Bool) (xs : List X) → list_all (λ x. not (p x)) xs ≡ true → position p xs ≡ None
-no_place p xs all =
-    let n = prefix_len (λ x. not (p x)) xs in
-    let whole : length xs ≤ n = omega (arith, reached_all (λ x. not (p x)) xs all) in
-    ap (λ b. cond b (Some n) None) (le-ltb n (length xs) whole)
+use Rattle.pk_values.proofs.ListLemmas.{no_place, none_passes, map_none}
 
 -- ---- the kinds of a row
 
@@ -67,10 +32,6 @@ rest_free : (o : Option RowFault) (os : List (Option RowFault)) → first_of (o 
 rest_free None os free = (refl, free)
 rest_free (Some f) os free = absurd (cc)
 
-none_mapped : (f : ℕ → RowFault) (o : Option ℕ) → option_map f o ≡ None → o ≡ None
-none_mapped f None none = refl
-none_mapped f (Some n) none = absurd (cc)
-
 holds : (b : Bool) (fault : RowFault) → if b then None else Some fault ≡ None → b ≡ true
 holds true fault none = refl
 holds false fault none = absurd (cc)
@@ -86,9 +47,9 @@ admitted_fits s row free =
     let wide : length row ≡ length s.columns = eqb-true _ _ (holds (length row == length s.columns) _ width.0) in
     record {
       width = wide;
-      kinds = sym (kinds_fit s.columns row wide) ∙ none_passes _ (zip s.columns row) (none_mapped _ _ kinds.0);
-      lengths = none_passes _ (zip s.columns row) (none_mapped _ _ lengths.0);
-      known = none_passes _ (zip s.columns row) (none_mapped _ _ known.0);
+      kinds = sym (kinds_fit s.columns row wide) ∙ none_passes _ (zip s.columns row) (map_none _ _ kinds.0);
+      lengths = none_passes _ (zip s.columns row) (map_none _ _ lengths.0);
+      known = none_passes _ (zip s.columns row) (map_none _ _ known.0);
       size = leb-true _ _ (holds (nat_le (length (row_record row)) 4000) _ size.0);
     }
 

@@ -1,32 +1,22 @@
--- A set of names gains the names of a list one by one.
-use Rattle.std.proofs.Common.{◌≡◌, refl, sym, ◌∙◌, ap, ℕ, suc, ◌+◌, ◌<◌, Bool, true, false, not, cond, if◌then◌else◌, ◌||◌, List, [], ◌∷◌, ◌++◌, Some, length, get_or, map, take, drop, arith}
+-- A set of names set_gains the names of a list one by one.
+use Rattle.std.proofs.Common.{◌≡◌, refl, sym, ◌∙◌, ap, ℕ, suc, ◌+◌, ◌<◌, Bool, true, false, not, if◌then◌else◌, ◌||◌, List, [], ◌∷◌, ◌++◌, Some, length, get_or, map, take, drop, arith}
 use Rattle.std.specs.Borrow.{Bor}
 use Rattle.std.specs.BTreeSet.{BTreeSet, Updates}
 use Rattle.std.specs.Cmp.Lexicographic.{slice_cmp}
-use Rattle.std.specs.Ordering.{nat_cmp, is_eq}
+use Rattle.std.specs.Ordering.{nat_cmp}
 use Rattle.std.specs.Str.{bytes_eq}
 use Rattle.std.proofs.Math.Seq.{drop-cons}
 use Rattle.std.proofs.lemmas.List.{take_more, map-append}
 use Rattle.std.proofs.lemmas.List.Folds.{list_any-append}
-use Rattle.std.proofs.lemmas.Map.Text.{is_eq-slice_cmp}
 use Rattle.pk_parse.specs.PrimaryNames.{has_name as knows}
 use Rattle.pk_parse.specs.Declarations.{has_name, twice, twice_behind}
-
-either : (a b : Bool) → cond a true b ≡ (a || b)
-either true b = refl
-either false b = refl
+use Rattle.pk_parse.proofs.PrimarySets.{set_gains}
 
 at_the_end : (a b : Bool) → (a || b) ≡ (b || (a || false))
 at_the_end true true = refl
 at_the_end true false = refl
 at_the_end false true = refl
 at_the_end false false = refl
-
--- with one more name the set has that name and those that it had
-gains : (name : Bor (List ℕ)) (old new : BTreeSet (Bor (List ℕ))) (other : List ℕ) → Updates (λ (a b : Bor (List ℕ)). slice_cmp nat_cmp a.now b.now) old new name true
-    → knows new other ≡ (bytes_eq name.now other || knows old other)
-gains name old new other updates =
-    updates.0 (record name { now = other }) ∙ either (is_eq (slice_cmp nat_cmp name.now other)) (knows old other) ∙ ap (λ b. b || knows old other) (is_eq-slice_cmp name.now other)
 
 names_more : {A : Type 0} (f : A → List ℕ) (xs : List A) (i : ℕ) (x : A) → i < length xs → x ≡ get_or xs i x → map f (take (i + 1) xs) ≡ map f (take i xs) ++ f x ∷ []
 names_more f xs i x within is = ap (map f) (take_more xs i x within ∙ ap (λ y. take i xs ++ y ∷ []) (sym is)) ∙ map-append f (take i xs) (x ∷ [])
@@ -36,7 +26,7 @@ pub known_more : {A : Type 0} (f : A → List ℕ) (xs : List A) (i : ℕ) (x : 
     → name.now ≡ f x → Updates (λ (a b : Bor (List ℕ)). slice_cmp nat_cmp a.now b.now) old new name true
     → ((n : List ℕ) → knows old n ≡ has_name (map f (take i xs)) n) → (n : List ℕ) → knows new n ≡ has_name (map f (take (i + 1) xs)) n
 known_more f xs i x name old new within is named updates so_far n =
-    gains name old new n updates ∙ ap (λ b. bytes_eq name.now n || b) (so_far n) ∙ at_the_end (bytes_eq name.now n) (has_name (map f (take i xs)) n)
+    set_gains name old new n updates ∙ ap (λ b. bytes_eq name.now n || b) (so_far n) ∙ at_the_end (bytes_eq name.now n) (has_name (map f (take i xs)) n)
     ∙ ap (λ m. has_name (map f (take i xs)) n || (bytes_eq m n || false)) named
     ∙ sym (list_any-append (λ m. bytes_eq m n) (map f (take i xs)) (f x ∷ []))
     ∙ ap (λ ns. has_name ns n) (sym (names_more f xs i x within is))

@@ -7,13 +7,13 @@ use Rattle.std.proofs.lemmas.List.Folds.{list_any-append}
 use Rattle.std.proofs.lemmas.Nat.Bits.{bit_at_above}
 use Rattle.std.proofs.lemmas.Slice.Eq.{bytes_eq-Decides}
 use Rattle.pk_values.specs.ColumnSet.{has_column, columns}
-use Rattle.pk_values.proofs.ColumnLemmas.{listed_columns, same_set}
+use Rattle.pk_values.proofs.ColumnLemmas.{listed_columns, same_set, columns_below, set_bounded}
 use Rattle.pk_parse.specs.declared.declaration.ColumnDecl.{ColumnDecl}
 use Rattle.pk_parse.specs.Declarations.{has_name, names_of, twice, twice_behind, in_column_order}
 use Rattle.pk_schema.specs.Shapes.{named_of, name_at, names_at}
 use Rattle.pk_schema.proofs.CountLemmas.{passes_at, has_where, none_kept}
-use Rattle.pk_schema.proofs.NameLemmas.{columns_below}
-use Rattle.pk_schema.proofs.SetLemmas.{equal_next, set_bounded}
+use Rattle.pk_schema.proofs.SetLemmas.{equal_next}
+use Rattle.std.proofs.Math.Bool.{or-true}
 
 -- ---- names
 
@@ -184,8 +184,4 @@ at_set p cols set each small = at_listed p cols (columns set) each (columns_belo
 pub is_named : (cols : List ColumnDecl) (k : ℕ) → k < length cols → has_name (names_of cols) (name_at cols k) ≡ true
 is_named [] k within = absurd (omega (arith, within))
 is_named (c ∷ cs) zero within = rw (name_itself c.name) refl
-is_named (c ∷ cs) (suc k) within = rw (is_named cs k (omega (arith, within))) (or_true (bytes_eq c.name (name_at cs k)))
-  where
-    or_true : (b : Bool) → (b || true) ≡ true
-    or_true true = refl
-    or_true false = refl
+is_named (c ∷ cs) (suc k) within = rw (is_named cs k (omega (arith, within))) (or-true (bytes_eq c.name (name_at cs k)))

@@ -22,6 +22,7 @@ use Rattle.pk_schema.specs.Making.{schema_refusals}
 use Rattle.pk_schema.proofs.CauseLemmas.{first_cause}
 use Rattle.pk_schema.proofs.NamedLemmas.{at_each, at_set, is_named, not_twice, ordered, set_again}
 use Rattle.pk_schema.proofs.ShapeLemmas.{few_nullable}
+use Rattle.pk_values.proofs.ListLemmas.{all_weaker}
 
 abbrev Inside : List ColumnDecl → KeyDecl → Type 0
 Inside cols k = k.columns < 2 ^ length cols
@@ -31,12 +32,6 @@ with_columns k set = record { sort = k.sort; columns = set }
 
 abbrev with_keys : Shape → List KeyDecl → Shape
 with_keys s keys = record { columns = s.columns; keys = keys }
-
-all_weaker : {X : Type 0} (p q : X → Bool) → ((x : X) → p x ≡ true → q x ≡ true) → (xs : List X) → list_all p xs ≡ true → list_all q xs ≡ true
-all_weaker p q weaker [] all = refl
-all_weaker p q weaker (x ∷ xs) all =
-    let parts = and_parts (p x) (list_all p xs) all in
-    rw (weaker x parts.0, all_weaker p q weaker xs parts.1) refl
 
 plain_is_name : (n : List ℕ) → is_plain_name n ≡ true → is_name n ≡ true
 plain_is_name n plain = (and_parts _ _ (and_parts (is_name n && not (is_reserved n)) _ plain).0).0

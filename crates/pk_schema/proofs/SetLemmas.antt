@@ -1,16 +1,16 @@
 -- Which columns are in the set of those that pass a test.
-use Rattle.std.proofs.Common.{◌≡◌, refl, sym, ◌∙◌, ap, ℕ, zero, suc, ◌+◌, ◌*◌, ◌/◌, ◌%◌, ◌^◌, ◌<◌, ◌≤◌, Bool, true, false, ◌&&◌, ◌||◌, ◌==◌, List, [], ◌∷◌, ◌++◌, length, take, get_or, nat_lt, if◌then◌else◌, arith}
+use Rattle.std.proofs.Common.{◌≡◌, refl, sym, ◌∙◌, ap, ℕ, zero, suc, ◌+◌, ◌*◌, ◌/◌, ◌%◌, ◌^◌, ◌<◌, Bool, true, false, ◌&&◌, ◌||◌, ◌==◌, List, [], ◌∷◌, ◌++◌, length, take, get_or, nat_lt, if◌then◌else◌, arith}
 use Rattle.std.proofs.lemmas.Bool.{lt-ltb, le-ltb, ne_eqb}
 use Rattle.std.proofs.lemmas.List.{take_more, length-take-le}
 use Rattle.std.proofs.lemmas.Nat.Bits.{bit_at_lowest, bit_at-suc}
 use Rattle.std.proofs.Math.Dec.{eqb-suc-suc, leb-suc-suc}
 use Rattle.std.proofs.Math.Nat.{pow-suc}
-use Rattle.std.proofs.Math.Pow.{pow_mono}
 use Rattle.pk_values.specs.ColumnSet.{IsColumnSet, has_column, columns}
 use Rattle.pk_values.proofs.BitLemmas.{has_nothing}
 use Rattle.pk_values.proofs.ColumnLemmas.{same_set, set_from_columns, columns_nothing}
 use Rattle.pk_parse.specs.declared.declaration.ColumnDecl.{ColumnDecl}
 use Rattle.pk_schema.specs.Shapes.{set_where, all_of}
+use Rattle.std.proofs.Math.Bool.{or-false}
 
 digit_even : (b : Bool) (n : ℕ) → ((if b then 1 else 0) + 2 * n) % 2 == 1 ≡ b
 digit_even true n = let odd : (1 + 2 * n) % 2 ≡ 1 = omega arith in rw odd refl
@@ -50,12 +50,6 @@ set_small p (c ∷ cs) = rw (pow-suc 2 (length cs)) (doubled (p c) (set_where p 
     doubled true n m less = omega (arith, less)
     doubled false n m less = omega (arith, less)
 
--- a set with a bit for each of at most 32 columns is one
-pub set_bounded : (set n : ℕ) → n ≤ 32 → set < 2 ^ n → IsColumnSet set
-set_bounded set n few small =
-    let most : 2 ^ n ≤ 2 ^ 32 = pow_mono few in
-    omega (arith, most, small)
-
 -- all columns are those below the number of columns
 pub has_all : (cs : List ColumnDecl) (k : ℕ) → has_column (all_of cs) k ≡ nat_lt k (length cs)
 has_all [] k = has_none (λ c. true) k ∙ sym (le-ltb k 0 (omega arith))
@@ -65,11 +59,7 @@ has_all (c ∷ cs) (suc k) = has_next (λ d. true) c cs k ∙ has_all cs k ∙ s
 -- one column more, which is behind all others
 pub has_more : (p : ColumnDecl → Bool) (cs : List ColumnDecl) (c : ColumnDecl) (k : ℕ)
     → has_column (set_where p (cs ++ c ∷ [])) k ≡ ((k == length cs && p c) || has_column (set_where p cs) k)
-has_more p [] c zero = rw (has_first p c [], has_none p 0) (either (p c))
-  where
-    either : (b : Bool) → b ≡ (b || false)
-    either true = refl
-    either false = refl
+has_more p [] c zero = rw (has_first p c [], has_none p 0) (sym (or-false (p c)))
 has_more p [] c (suc k) = rw (has_next p c [] k, has_none p k, has_none p (suc k), ne_eqb (suc k) 0 (λ same. absurd (omega (arith, same)))) refl
 has_more p (d ∷ ds) c zero = rw (has_first p d (ds ++ c ∷ []), has_first p d ds, ne_eqb 0 (suc (length ds)) (λ same. absurd (omega (arith, same)))) refl
 has_more p (d ∷ ds) c (suc k) = rw (has_next p d (ds ++ c ∷ []) k, has_next p d ds k, equal_next k (length ds)) (has_more p ds c k)

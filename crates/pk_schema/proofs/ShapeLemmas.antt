@@ -1,7 +1,6 @@
 -- What a declaration makes where nothing refuses it.
 use Rattle.std.proofs.Common.{◌≡◌, refl, sym, ◌∙◌, ap, ℕ, ◌^◌, ◌<◌, ◌≤◌, Bool, true, false, not, ◌&&◌, ◌||◌, List, [], ◌∷◌, Option, Some, None, length, map, nat_le, IsTrue, arith}
 use Rattle.std.specs.List.{list_all, All}
-use Rattle.std.specs.Option.{option_map}
 use Rattle.std.proofs.lemmas.Bool.{and_parts, leb-true}
 use Rattle.std.proofs.lemmas.List.Elements.{All-nil, All-cons, All-map}
 use Rattle.std.proofs.lemmas.List.{length-map}
@@ -10,7 +9,6 @@ use Rattle.pk_values.specs.Name.{is_name}
 use Rattle.pk_values.specs.Refusals.{first_some}
 use Rattle.pk_values.specs.declared.key.KeyDecl.{KeyDecl}
 use Rattle.pk_values.specs.declared.refusal.LimitName.{LimitName}
-use Rattle.pk_values.specs.declared.refusal.Refusal.{Refusal}
 use Rattle.pk_parse.specs.declared.declaration.ColumnDecl.{ColumnDecl}
 use Rattle.pk_parse.specs.declared.declaration.KeyText.{KeyText}
 use Rattle.pk_parse.specs.declared.declaration.TableDecl.{TableDecl}
@@ -20,6 +18,8 @@ use Rattle.pk_schema.specs.Shapes.{IsShape, shape_of, key_of, is_plain_name, has
 use Rattle.pk_schema.specs.Making.{schema_refusals, no_column, declared_twice, limit_unless}
 use Rattle.pk_schema.proofs.SetLemmas.{set_small}
 use Rattle.pk_schema.proofs.CountLemmas.{count_without}
+use Rattle.pk_values.proofs.RefusalLemmas.{head_free}
+use Rattle.pk_values.proofs.ListLemmas.{map_none, all_same}
 
 -- none of the refusals stands
 pub record Unrefused (decl : TableDecl) : Type 0 where
@@ -30,22 +30,18 @@ pub record Unrefused (decl : TableDecl) : Type 0 where
   pub keys : keys_are_few decl ≡ true
   pub nullable : nullable_are_few decl ≡ true
 
-first_free : (r : Option Refusal) (rs : List (Option Refusal)) → first_some (r ∷ rs) ≡ None → (r ≡ None) × (first_some rs ≡ None)
-first_free None rs free = (refl, free)
-first_free (Some r) rs free = absurd (cc)
-
 within_limit : (what : LimitName) (b : Bool) → limit_unless what b ≡ None → b ≡ true
 within_limit what true free = refl
 within_limit what false free = absurd (cc)
 
 pub unrefused : (decl : TableDecl) → first_some (schema_refusals decl) ≡ None → Unrefused decl
 unrefused decl free =
-    let one = first_free _ _ free in
-    let two = first_free _ _ one.1 in
-    let three = first_free _ _ two.1 in
-    let four = first_free _ _ three.1 in
-    let five = first_free _ _ four.1 in
-    let six = first_free _ _ five.1 in
+    let one = head_free _ _ free in
+    let two = head_free _ _ one.1 in
+    let three = head_free _ _ two.1 in
+    let four = head_free _ _ three.1 in
+    let five = head_free _ _ four.1 in
+    let six = head_free _ _ five.1 in
     record {
       no_column = one.0;
       twice = two.0;
@@ -55,17 +51,13 @@ unrefused decl free =
       nullable = within_limit _ _ six.0;
     }
 
-none_mapped : {A B : Type 0} (f : A → B) (o : Option A) → option_map f o ≡ None → o ≡ None
-none_mapped f None none = refl
-none_mapped f (Some x) none = absurd (cc)
-
 none_first : {A : Type 0} (o : Option A) (os : List (Option A)) → first_of (o ∷ os) ≡ None → o ≡ None
 none_first None os none = refl
 none_first (Some x) os none = absurd (cc)
 
 columns_distinct : (decl : TableDecl) → declared_twice decl ≡ None → twice (names_of decl.columns) ≡ None
 unfolding declared_twice
-columns_distinct decl none = none_first _ _ (none_mapped _ _ none)
+columns_distinct decl none = none_first _ _ (map_none _ _ none)
 
 three_hold : (a b c : Bool) → a ≡ true → b ≡ true → c ≡ true → (a && b && c) ≡ true
 three_hold a b c x y z = rw (x, y, z) refl
@@ -88,10 +80,6 @@ pub few_nullable : (cols : List ColumnDecl) → length cols ≤ 32 → (k : KeyT
 few_nullable cols few k =
     ap (λ n. not (is_certain k.sort) || nat_le n 5) (count_without (λ (c : ColumnDecl). has_name k.columns c.name) (λ (c : ColumnDecl). c.not_null) cols few)
 
-list_all_same : {X : Type 0} (p q : X → Bool) → ((x : X) → p x ≡ q x) → (xs : List X) → list_all p xs ≡ list_all q xs
-list_all_same p q same [] = refl
-list_all_same p q same (x ∷ xs) = rw (same x, list_all_same p q same xs) refl
-
 pub made_shape : (decl : TableDecl) → IsTrue (is_plain decl) → first_some (schema_refusals decl) ≡ None → list_all is_name (names_of decl.columns) ≡ true → IsShape (shape_of decl)
 made_shape decl plain free names =
     let u = unrefused decl free in
@@ -107,7 +95,7 @@ made_shape decl plain free names =
       lengths = parts.1;
       few_keys = rw (length-map decl.keys (key_of decl.columns)) (leb-true _ _ u.keys);
       keys_inside = All-map (λ (k : KeyDecl). k.columns < 2 ^ length decl.columns) (key_of decl.columns) decl.keys (all_everywhere _ (λ k. set_small (λ (c : ColumnDecl). has_name k.columns c.name) decl.columns) decl.keys);
-      few_nullable = list_all-map (has_few_nullable decl.columns) (key_of decl.columns) decl.keys ∙ list_all_same _ _ (few_nullable decl.columns few) decl.keys ∙ u.nullable;
+      few_nullable = list_all-map (has_few_nullable decl.columns) (key_of decl.columns) decl.keys ∙ all_same _ _ (few_nullable decl.columns few) decl.keys ∙ u.nullable;
     }
   where
     at_least_one : (cs : List ColumnDecl) → has_column cs ≡ true → 1 ≤ length cs

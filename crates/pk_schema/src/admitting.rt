@@ -110,7 +110,7 @@ fn is_wrong(check: Check, column: &ColumnDecl, value: &Value) -> bool
 }
 
 // How many bytes the text in this column has.
-#[tactic(auto, using(crate::proofs::RowLemmas::value_read))]
+#[tactic(auto, using(pk_values::proofs::RowLemmas::value_read))]
 fn text_length_at(row: &Row, column: u32) -> u32
     requires { column < length row.now }
     ensures { result ≡ text_length (value_at row.now column) }

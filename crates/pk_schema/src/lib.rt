@@ -24,6 +24,3 @@ pub use named::{Named, column_named, column_place, copied_column, copied_columns
 pub use pk_parse::ColumnDecl as Column;
 pub use schema::Schema;
 pub use sets::key_of;
-
-#[cfg(test)]
-mod tests;

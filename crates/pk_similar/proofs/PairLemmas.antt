@@ -7,21 +7,12 @@ use Rattle.pk_values.specs.declared.value.Value.TheVariants.{Null, Integer, Text
 use Rattle.pk_values.specs.Values.{same_value, value_at}
 use Rattle.pk_similar.specs.Similarity.{is_among, weak_entries, strong_entries, weak, strong, apart, not_same, no_pair}
 use Rattle.pk_values.proofs.ValueOrder.{equal_from_same, same_from_equal}
-
--- two tests that give one answer to each column give one to all
-all_same : (p q : ℕ → Bool) → ((c : ℕ) → p c ≡ q c) → (cs : List ℕ) → list_all p cs ≡ list_all q cs
-all_same p q same [] = refl
-all_same p q same (c ∷ cs) = rw (same c, all_same p q same cs) refl
-
-same_truth : (x y : Bool) → (x ≡ true → y ≡ true) → (y ≡ true → x ≡ true) → x ≡ y
-same_truth true true _ _ = refl
-same_truth false false _ _ = refl
-same_truth true false up _ = sym (up refl)
-same_truth false true _ down = down refl
+use Rattle.std.specs.Cmp.{both_ways}
+use Rattle.pk_values.proofs.ListLemmas.{all_same}
 
 same_turned : (v w : Value) → same_value v w ≡ same_value w v
 same_turned v w =
-    same_truth _ _ (λ same. same_from_equal w v (sym (equal_from_same v w same))) (λ same. same_from_equal v w (sym (equal_from_same w v same)))
+    both_ways _ _ (λ same. same_from_equal w v (sym (equal_from_same v w same))) (λ same. same_from_equal v w (sym (equal_from_same w v same)))
 
 weak_entries_turned : (v w : Value) → weak_entries v w ≡ weak_entries w v
 weak_entries_turned Null Null = refl

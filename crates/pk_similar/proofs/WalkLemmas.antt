@@ -1,7 +1,7 @@
 -- Walks over the columns of a set.
-use Rattle.std.proofs.Common.{◌≡◌, refl, sym, ◌∙◌, ap, subst, ℕ, zero, suc, Bool, true, false, not, ◌&&◌, ◌||◌, ◌==◌, List, [], ◌∷◌, ◌++◌, length, inl, inr, Some, IsTrue, nat_lt, get_or, slice_get, append_assoc, length-append, ◌<◌, ◌≤◌, ◌+◌, arith}
+use Rattle.std.proofs.Common.{◌≡◌, refl, sym, ◌∙◌, ap, subst, ℕ, zero, suc, Bool, true, false, not, ◌&&◌, ◌||◌, ◌==◌, List, [], ◌∷◌, ◌++◌, length, inl, inr, Some, nat_lt, get_or, slice_get, append_assoc, length-append, ◌<◌, ◌≤◌, ◌+◌, arith}
 use Rattle.std.specs.List.{filter, list_all, range_with_len}
-use Rattle.std.proofs.lemmas.Bool.{cases_Bool, cases_eq, eq-eqb, ne_eqb, and_parts}
+use Rattle.std.proofs.lemmas.Bool.{cases_Bool, cases_eq, eq-eqb, ne_eqb}
 use Rattle.std.proofs.lemmas.List.{length-map}
 use Rattle.pk_values.specs.declared.kind.Kind.{Kind}
 use Rattle.pk_values.specs.declared.kind.Kind.TheVariants as kinds
@@ -10,14 +10,10 @@ use Rattle.pk_values.specs.Values.{value_at}
 use Rattle.pk_values.specs.ColumnSet.{IsColumnSet, has_column, columns, is_subset}
 use Rattle.pk_similar.specs.Similarity.{are_below, is_among, weak_entries, strong_entries, weak, strong}
 use Rattle.pk_similar.specs.Filling.{kind_at, fill_entry, fill_values}
-use Rattle.pk_values.proofs.ColumnLemmas.{columns_rest, listed_columns}
+use Rattle.pk_values.proofs.ColumnLemmas.{listed_columns, kept_listed}
 use Rattle.pk_values.proofs.RangeLemmas.{filter_twice}
-
--- a row's value in a column that it has
-pub value_read : (row : List Value) (c : ℕ) (v : Value) → slice_get row c ≡ Some v → value_at row c ≡ v
-value_read [] c v found = cc
-value_read (w ∷ ws) zero v found = cc
-value_read (w ∷ ws) (suc c) v found = value_read ws c v found
+use Rattle.std.proofs.Math.Bool.{or-true, and-false, or-false}
+use Rattle.pk_values.proofs.RowLemmas.{value_read}
 
 -- the kind of a column as code reads it
 pub kind_read : (ks : List Kind) (c : ℕ) → kind_at ks c ≡ get_or ks c kinds.Integer
@@ -33,10 +29,6 @@ subset_below set all width members = each (columns set)
     each : (cs : List ℕ) → list_all (has_column all) cs ≡ are_below width cs
     each [] = refl
     each (c ∷ cs) = rw (members c, each cs) refl
-
--- the columns behind the first are below a width that all are below
-pub below_rest : (width : ℕ) (cs others : List ℕ) (c : ℕ) → IsTrue (are_below width cs) → cs ≡ c ∷ others → IsTrue (are_below width others)
-below_rest width cs others c below split = (and_parts _ _ (subst (λ xs. are_below width xs ≡ true) split below)).1
 
 -- a test of all columns, after the first passed or failed
 all_on : (p : ℕ → Bool) (cs others : List ℕ) (c : ℕ) → cs ≡ c ∷ others → p c ≡ true → list_all p cs ≡ list_all p others
@@ -126,15 +118,6 @@ pub differ_read :
     → not (test v w) ≡ answer → not (test (value_at a c) (value_at b c)) ≡ answer
 differ_read test a b c v w answer left right holds = rw (value_read a c v left, value_read b c w right) holds
 
--- the set without its first column has the others
-pub walk_on :
-    (set rest c : ℕ) → (others : List ℕ) × (columns set ≡ c ∷ others) → ((k : ℕ) → has_column rest k ≡ (not (k == c) && has_column set k))
-    → columns set ≡ c ∷ columns rest
-walk_on set rest c first members = first.1 ∙ ap (λ xs. c ∷ xs) (sym (columns_rest set rest c first.0 first.1 members))
-
-pub walk_shorter : (set rest : List ℕ) (c : ℕ) → set ≡ c ∷ rest → length rest < length set
-walk_shorter set rest c split = let longer = ap length split in omega (arith, longer)
-
 -- the columns of x that pass the test are those found and those of the rest that pass it
 pub record IsFound (test : ℕ → Bool) (x rest found : ℕ) : Type 0 where
   pub members : (k : ℕ) → (is_among (columns x) k && test k) ≡ (has_column found k || is_among (columns rest) k && test k)
@@ -152,16 +135,12 @@ pub found_more :
 found_more test x rest others c found more before split passes with =
     record { members = λ k. before.members k ∙ ap (λ cs. has_column found k || is_among cs k && test k) split ∙ step k }
   where
-    or_true : (t : Bool) → (t || true) ≡ true
-    or_true true = refl
-    or_true false = refl
-
     step : (k : ℕ) → (has_column found k || (c == k || is_among (columns others) k) && test k) ≡ (has_column more k || is_among (columns others) k && test k)
     step k =
         elim (cases_eq c k) [
           | inl same ↦
               subst (λ j. (has_column found j || (c == j || is_among (columns others) j) && test j) ≡ (has_column more j || is_among (columns others) j && test j)) same
-              (rw (with c, eq-eqb c c refl, passes) (or_true (has_column found c)))
+              (rw (with c, eq-eqb c c refl, passes) (or-true (has_column found c)))
           | inr other ↦ rw (with k, ne_eqb c k other, ne_eqb k c (λ same. other (sym same))) refl
         ]
 
@@ -171,46 +150,14 @@ pub found_passed :
 found_passed test x rest others c found before split fails =
     record { members = λ k. before.members k ∙ ap (λ cs. has_column found k || is_among cs k && test k) split ∙ step k }
   where
-    and_false : (t : Bool) → (t && false) ≡ false
-    and_false true = refl
-    and_false false = refl
-
     step : (k : ℕ) → (has_column found k || (c == k || is_among (columns others) k) && test k) ≡ (has_column found k || is_among (columns others) k && test k)
     step k =
         elim (cases_eq c k) [
           | inl same ↦
               subst (λ j. (has_column found j || (c == j || is_among (columns others) j) && test j) ≡ (has_column found j || is_among (columns others) j && test j)) same
-              (rw (fails, and_false (c == c || is_among (columns others) c), and_false (is_among (columns others) c)) refl)
+              (rw (fails, and-false (c == c || is_among (columns others) c), and-false (is_among (columns others) c)) refl)
           | inr other ↦ rw (ne_eqb c k other) refl
         ]
-
--- a number before the range isn't kept
-none_before : (p : ℕ → Bool) (a m k : ℕ) → k < a → is_among (filter p (range_with_len a m)) k ≡ false
-none_before p a zero k low = refl
-none_before p a (suc m) k low =
-    let later = none_before p (a + 1) m k (omega (arith, low)) in
-    elim (cases_Bool (p a)) [
-      | inl holds ↦ rw (holds, ne_eqb a k (λ same. omega (arith, low, same)), later) refl
-      | inr fails ↦ rw (fails, later) refl
-    ]
-
--- what is kept of a range are its numbers that pass
-kept_listed : (p : ℕ → Bool) (a m k : ℕ) → a ≤ k → k < a + m → is_among (filter p (range_with_len a m)) k ≡ p k
-kept_listed p a zero k from before = absurd (omega (arith, from, before))
-kept_listed p a (suc m) k from before =
-    elim (cases_eq a k) [
-      | inl same ↦ subst (λ j. is_among (filter p (range_with_len a (suc m))) j ≡ p j) same (here (p a) refl)
-      | inr other ↦
-          let later = kept_listed p (a + 1) m k (omega (arith, from, other)) (omega (arith, before)) in
-          elim (cases_Bool (p a)) [
-            | inl holds ↦ rw (holds, ne_eqb a k other) later
-            | inr fails ↦ rw fails later
-          ]
-    ]
-  where
-    here : (b : Bool) → p a ≡ b → is_among (filter p (range_with_len a (suc m))) a ≡ p a
-    here true holds = rw (holds, eq-eqb a a refl) refl
-    here false fails = rw fails (none_before p (a + 1) m a (omega arith))
 
 -- tests that agree on a range keep the same of it
 kept_same : (p q : ℕ → Bool) (a m : ℕ) → ((k : ℕ) → a ≤ k → k < a + m → p k ≡ q k) → filter p (range_with_len a m) ≡ filter q (range_with_len a m)
@@ -227,10 +174,6 @@ pub found_all : (test : ℕ → Bool) (x rest found : ℕ) → IsFound test x re
 unfolding columns
 found_all test x rest found before none =
     kept_same (has_column found) (λ k. has_column x k && test k) 0 32
-    (λ k from low. sym (before.members k ∙ ap (λ cs. has_column found k || is_among cs k && test k) none ∙ or_none (has_column found k))
+    (λ k from low. sym (before.members k ∙ ap (λ cs. has_column found k || is_among cs k && test k) none ∙ or-false (has_column found k))
     ∙ ap (λ t. t && test k) (kept_listed (has_column x) 0 32 k from low))
     ∙ sym (filter_twice (has_column x) test (range_with_len 0 32))
-  where
-    or_none : (t : Bool) → (t || false) ≡ t
-    or_none true = refl
-    or_none false = refl

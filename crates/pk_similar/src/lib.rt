@@ -37,6 +37,3 @@ pub use laws::{
 };
 pub use similarity::{strong, weak};
 pub use width::lies_below;
-
-#[cfg(test)]
-mod tests;

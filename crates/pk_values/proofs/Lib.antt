@@ -1,5 +1,10 @@
 pub mod BitLemmas
 pub mod ColumnLemmas
 pub mod ColumnOrder
+pub mod ListLemmas
+pub mod NumberLemmas
 pub mod RangeLemmas
+pub mod RefusalLemmas
+pub mod RowLemmas
 pub mod ValueOrder
+pub mod WalkLemmas

@@ -43,6 +43,3 @@ pub use row::{MOST_COLUMNS, Row};
 pub use rule::Rule;
 pub use value::Value;
 pub use words::{MOST_BYTES, Words, WordsErr};
-
-#[cfg(test)]
-mod tests;

@@ -16,3 +16,7 @@ failing_pulls s = s.failing.items
 -- how many pulls have failed
 abbrev pub fault_count : MemorySource → ℕ
 fault_count s = s.faults
+
+-- how many pulls there have been, up to the greatest u64
+abbrev pub pull_count : MemorySource → ℕ
+pull_count s = s.calls

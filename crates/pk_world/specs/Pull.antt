@@ -1,6 +1,12 @@
-use Rattle.std.specs.Prelude.{ℕ}
+use Rattle.std.specs.Prelude.{ℕ, Bool, true, false}
 use Rattle.pk_world.specs.declared.source.Pull.{Pull}
 use Rattle.pk_world.specs.declared.source.Pull.TheVariants.{Got, End, Failed}
+
+-- nothing could be said
+abbrev pub has_failed : Pull → Bool
+has_failed (Got n) = false
+has_failed End = false
+has_failed Failed = true
 
 -- a fact of the number of bytes, where some came
 abbrev pub IfGot : Pull → (ℕ → Type 0) → Type 0

@@ -1,4 +1,4 @@
-ghost use Rattle.std.specs.Prelude.{◌≡◌, ◌<◌, ◌≤◌, vec_len, IfOk};
+ghost use Rattle.std.specs.Prelude.{◌≡◌, ◌<◌, ◌≤◌, ◌+◌, ◌-◌, ◌^◌, min, vec_len, IfOk};
 
 use crate::source::{Pull, Source};
 use pk_values::Memory;
@@ -18,7 +18,8 @@ pub struct MemorySource {
 }
 
 impl MemorySource {
-    ghost use Rattle.pk_world.specs.MemorySource.{bytes_left, step_of, failing_pulls, fault_count};
+    ghost use Rattle.pk_world.specs.MemorySource.{bytes_left, step_of, failing_pulls, pull_count, fault_count};
+    ghost use Rattle.pk_world.specs.Listed.{is_listed};
 
     /// A source of these bytes, which come `step` at a time. The pulls whose numbers, counted from 1,
     /// stand in `failing` fail.
@@ -32,6 +33,7 @@ impl MemorySource {
         ensures bytes { IfOk result (λ s. bytes_left s ≡ bytes.now) }
         ensures step { IfOk result (λ s. step_of s ≡ step) }
         ensures failing { IfOk result (λ s. failing_pulls s ≡ failing.now) }
+        ensures pulls { IfOk result (λ s. pull_count s ≡ 0) }
         ensures faults { IfOk result (λ s. fault_count s ≡ 0) }
     {
         Ok(MemorySource {
@@ -44,6 +46,19 @@ impl MemorySource {
         })
     }
 
+    // Counts a pull; whether it is one of those that fail.
+    fn fails_now(&mut self) -> bool
+        ensures count { pull_count self.new ≡ min (pull_count self.old + 1) (2 ^ 64 - 1) }
+        ensures listed { result ≡ is_listed (failing_pulls self.old) (pull_count self.new) }
+        ensures bytes { bytes_left self.new ≡ bytes_left self.old }
+        ensures step { step_of self.new ≡ step_of self.old }
+        ensures failing { failing_pulls self.new ≡ failing_pulls self.old }
+        ensures faults { fault_count self.new ≡ fault_count self.old }
+    {
+        self.calls = self.calls.saturating_add(1);
+        self.failing.contains(&self.calls)
+    }
+
     /// How many pulls have failed.
     pub fn faults(&self) -> u64
         ensures { result ≡ fault_count self.now }
@@ -53,8 +68,11 @@ impl MemorySource {
 }
 
 impl Source for MemorySource {
-    ghost use Rattle.std.specs.Prelude.{true};
-    ghost use Rattle.pk_world.specs.MemorySource.{bytes_left, fault_count};
+    ghost use Rattle.std.specs.Prelude.{◌≡◌, ◌+◌, ◌-◌, ◌^◌, ◌<◌, ◌≤◌, ◌++◌, true, [], length, min, take, drop};
+    ghost use Rattle.pk_world.specs.Listed.{is_listed};
+    ghost use Rattle.pk_world.specs.MemorySource.{bytes_left, step_of, failing_pulls, pull_count, fault_count};
+    ghost use Rattle.pk_world.specs.Pull.{IfGot, OnEnd, OnFailed, UnlessGot, UnlessFailed, has_failed};
+    ghost use Rattle.pk_world.specs.Rose.{Rose};
 
     ghost tells = { λ _. true };
 
@@ -62,9 +80,24 @@ impl Source for MemorySource {
 
     ghost faults = { fault_count };
 
-    fn pull(&mut self, room: &mut [u8]) -> Pull {
-        self.calls = self.calls.saturating_add(1);
-        if self.failing.contains(&self.calls) {
+    /// Fails exactly where the number of the pull is listed, and else gives as many bytes as a step, the room
+    /// and the bytes left allow.
+    fn pull(&mut self, room: &mut [u8]) -> Pull
+        requires { 0 < length room.old }
+        ensures fails { has_failed result ≡ is_listed (failing_pulls self.old) (pull_count self.new) }
+        ensures number { pull_count self.new ≡ min (pull_count self.old + 1) (2 ^ 64 - 1) }
+        ensures most { IfGot result (λ n. n ≡ min (min (length (bytes_left self.old)) (step_of self.old)) (length room.old)) }
+        ensures some { IfGot result (λ n. 0 < n) }
+        ensures next { IfGot result (λ n. bytes_left self.old ≡ take n room.new ++ bytes_left self.new) }
+        ensures behind { IfGot result (λ n. drop n room.new ≡ drop n room.old) }
+        ensures end { OnEnd result (bytes_left self.old ≡ []) }
+        ensures stays { UnlessGot result (bytes_left self.new ≡ bytes_left self.old) }
+        ensures room { UnlessGot result (room.new ≡ room.old) }
+        ensures count { fault_count self.old ≤ fault_count self.new }
+        ensures unfailed { UnlessFailed result (fault_count self.new ≡ fault_count self.old) }
+        ensures cause { OnFailed result (Rose (fault_count self.old) (fault_count self.new)) }
+    {
+        if self.fails_now() {
             self.faults = self.faults.saturating_add(1);
             return Pull::Failed;
         }

@@ -76,8 +76,10 @@ impl MemoryStation {
 }
 
 impl Station for MemoryStation {
-    ghost use Rattle.std.specs.Prelude.{true};
-    ghost use Rattle.pk_world.specs.MemoryStation.{taken, sink_fault_count};
+    ghost use Rattle.std.specs.Prelude.{◌≡◌, ℕ, ◌+◌, ◌-◌, ◌^◌, ◌≤◌, ◌++◌, true, false, length, min, take, OnOk, OnErr};
+    ghost use Rattle.pk_world.specs.Listed.{is_listed};
+    ghost use Rattle.pk_world.specs.MemoryStation.{taken, failing_calls, call_count, sink_fault_count};
+    ghost use Rattle.pk_world.specs.Rose.{Rose};
 
     ghost tells = { λ _. true };
 
@@ -85,7 +87,16 @@ impl Station for MemoryStation {
 
     ghost sink_faults = { sink_fault_count };
 
-    fn tell(&mut self, bytes: &[u8]) -> Result<(), Failed> {
+    /// Fails where the number of the call is listed, and where memory is wanting.
+    fn tell(&mut self, bytes: &[u8]) -> Result<(), Failed>
+        ensures fails { OnOk result (is_listed (failing_calls self.old) (call_count self.new) ≡ false) }
+        ensures number { call_count self.new ≡ min (call_count self.old + 1) (2 ^ 64 - 1) }
+        ensures ok { OnOk result (taken self.new ≡ taken self.old ++ bytes.now) }
+        ensures err { (n : ℕ) × (n ≤ length bytes.now) × (taken self.new ≡ taken self.old ++ take n bytes.now) }
+        ensures count { sink_fault_count self.old ≤ sink_fault_count self.new }
+        ensures unfailed { OnOk result (sink_fault_count self.new ≡ sink_fault_count self.old) }
+        ensures cause { OnErr result (Rose (sink_fault_count self.old) (sink_fault_count self.new)) }
+    {
         self.calls = self.calls.saturating_add(1);
         if self.failing.contains(&self.calls) || self.told.extend_from_slice(bytes).is_err() {
             self.sink_faults = self.sink_faults.saturating_add(1);

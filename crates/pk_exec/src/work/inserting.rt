@@ -6,7 +6,8 @@ ghost use Rattle.pk_values.specs.declared.placed.Placed.{Placed};
 ghost use Rattle.pk_parse.specs.Given.{has_utf8};
 ghost use Rattle.pk_bind.specs.Insert.{new_rows};
 ghost use Rattle.pk_exec.specs.Edits.{inserted_into};
-ghost use Rattle.pk_exec.specs.Works.{Covers, Fits, SameElsewhere, entries_of, work_size, edits_at, edit_count, with_table, add_rows};
+ghost use Rattle.pk_exec.specs.Works.{SameElsewhere, work_size, edits_at, edit_count, with_table, add_rows};
+ghost use Rattle.pk_exec.specs.Seen.{Covers, Fits, entries_of};
 ghost use Rattle.pk_exec.specs.Refusals.{work_insert_refusals, many_changes};
 ghost use Rattle.pk_exec.specs.Answers.{InsertAnswers, OnInsertRefusal};
 

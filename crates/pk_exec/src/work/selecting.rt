@@ -11,7 +11,8 @@ ghost use Rattle.pk_exec.specs.Entries.{row_in};
 ghost use Rattle.pk_bind.specs.declared.selection.Shown.TheVariants.{Count};
 ghost use Rattle.pk_exec.specs.Reading.{CanTake, seen_rows};
 ghost use Rattle.pk_exec.specs.Selecting.{selected, shown, sorted_by};
-ghost use Rattle.pk_exec.specs.Works.{Covers, Fits, entries_of, edits_at};
+ghost use Rattle.pk_exec.specs.Works.{edits_at};
+ghost use Rattle.pk_exec.specs.Seen.{Covers, Fits, entries_of};
 ghost use Rattle.pk_exec.specs.Answers.{Answers};
 ghost use Rattle.pk_exec.specs.Views.{IsLeft, HasCause, HasStoreCause};
 

@@ -6,7 +6,9 @@ ghost use Rattle.pk_schema.specs.Shapes.{Shape};
 ghost use Rattle.pk_schema.specs.Admits.{Admits};
 ghost use Rattle.pk_exec.specs.Rows.{AscendFrom};
 ghost use Rattle.pk_exec.specs.Changes.{changes_of, placed_from};
-ghost use Rattle.pk_exec.specs.Works.{edited_ids, Covers, Fits, entries_of, gone_edits, put_edits};
+ghost use Rattle.pk_exec.specs.Works.{edited_ids};
+ghost use Rattle.pk_exec.specs.Seen.{Covers, Fits, entries_of};
+ghost use Rattle.pk_exec.specs.Told.{gone_edits, put_edits};
 
 use crate::table_edits::EditedRow;
 use crate::work::Work;

@@ -1,10 +1,10 @@
-use Rattle.std.proofs.Common.{◌∙◌, sym, subst, ℕ, ◌≤◌}
-use Rattle.pk_logic.proofs.RowLemmas.{value_read}
+use Rattle.std.proofs.Common.{sym, subst, ℕ, ◌≤◌}
+use Rattle.pk_values.proofs.RowLemmas.{value_read}
 use Rattle.pk_exec.proofs.RowLemmas.{value_past}
 use Rattle.pk_exec.proofs.showing.shown_value.Goals as goal
 
 pub returns-then-column-width : goal.returns-then-column-width
-returns-then-column-width c = rw (value_read c.args.row.now c.args.column c.value.result.now c.value.ensures) at c.copy.ensures
+returns-then-column-width c = rw (sym (value_read c.args.row.now c.args.column c.value.result.now c.value.ensures)) at c.copy.ensures
 
 pub returns-else-column-width : goal.returns-else-column-width
 returns-else-column-width c = sym (value_past c.args.row.now c.args.column (subst (λ (w : ℕ). w ≤ c.args.column) c.width.ensures.width c.if-column-width.false))

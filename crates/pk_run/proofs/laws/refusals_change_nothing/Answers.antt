@@ -9,9 +9,8 @@ use Rattle.pk_parse.specs.declared.parsing.ParseErr.{ParseErr}
 use Rattle.pk_report.specs.declared.reply.Reply.{Reply}
 use Rattle.pk_report.specs.declared.reply.Reply.TheVariants.{Refused}
 use Rattle.pk_engine.specs.State.{State}
-use Rattle.pk_engine.specs.Answer.{answer}
+use Rattle.pk_engine.specs.Answer.{answer, is_answered}
 use Rattle.pk_engine.proofs.OtherLemmas.{refusals_leave}
-use Rattle.pk_run.specs.Served.{is_served}
 use Rattle.pk_run.specs.Told.{step, refused, answer_to, is_refusal}
 use Rattle.pk_run.proofs.laws.refusals_change_nothing.Goals as goal
 
@@ -25,14 +24,14 @@ left_by_answer st s h =
     let told = refusal_in (answer st s).reply h in
     refusals_leave st s told.0 told.1
 
-left_by_choice : (st : State) (line : ℕ) (s : Statement) (served : Bool)
-    → is_refusal (if served then answer st s else refused st (NotStatement line)).reply ≡ true
-    → (if served then answer st s else refused st (NotStatement line)).next ≡ st
+left_by_choice : (st : State) (line : ℕ) (s : Statement) (answered : Bool)
+    → is_refusal (if answered then answer st s else refused st (NotStatement line)).reply ≡ true
+    → (if answered then answer st s else refused st (NotStatement line)).next ≡ st
 left_by_choice st line s true h = left_by_answer st s h
 left_by_choice st line s false h = refl
 
 left_by_piece : (st : State) (line : ℕ) (read : Result Statement ParseErr) → is_refusal (answer_to st line read).reply ≡ true → (answer_to st line read).next ≡ st
-left_by_piece st line (Ok s) h = left_by_choice st line s (is_served s) h
+left_by_piece st line (Ok s) h = left_by_choice st line s (is_answered s) h
 left_by_piece st line (Err e) h = refl
 
 pub returns : goal.returns

@@ -1,4 +1,4 @@
-use Rattle.pk_schema.proofs.NameLemmas.{columns_below}
+use Rattle.pk_values.proofs.ColumnLemmas.{columns_below}
 use Rattle.pk_schema.proofs.declaring.key_text.Goals as goal
 
 pub names_at-requires : goal.names_at-requires

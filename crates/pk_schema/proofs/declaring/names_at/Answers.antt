@@ -1,5 +1,6 @@
 use Rattle.std.proofs.Common.{◌∙◌}
-use Rattle.pk_schema.proofs.NameLemmas.{walk_on, walk_shorter, below_first, below_rest, name_more}
+use Rattle.pk_schema.proofs.NameLemmas.{name_more}
+use Rattle.pk_values.proofs.WalkLemmas.{walk_on, walk_shorter, below_first, below_rest}
 use Rattle.pk_schema.proofs.declaring.names_at.Goals as goal
 
 pub loop-c-smaller : goal.loop-c-smaller

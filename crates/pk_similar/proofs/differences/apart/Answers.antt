@@ -1,6 +1,7 @@
 use Rattle.std.proofs.Common.{sym, ◌∙◌}
 use Rattle.pk_similar.specs.Similarity.{weak_entries, apart}
-use Rattle.pk_similar.proofs.WalkLemmas.{found_none, found_more, found_passed, found_all, below_rest, differ_read, walk_on, walk_shorter}
+use Rattle.pk_similar.proofs.WalkLemmas.{found_none, found_more, found_passed, found_all, differ_read}
+use Rattle.pk_values.proofs.WalkLemmas.{below_rest, walk_on, walk_shorter}
 use Rattle.pk_similar.proofs.differences.apart.Goals as goal
 
 pub loop-c-init : goal.loop-c-init

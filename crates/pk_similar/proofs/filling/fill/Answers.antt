@@ -1,7 +1,8 @@
 use Rattle.std.proofs.Common.{◌∙◌, ap, arith, ◌++◌}
 use Rattle.pk_values.specs.ColumnSet.{columns}
 use Rattle.pk_similar.specs.Filling.{fill_values}
-use Rattle.pk_similar.proofs.WalkLemmas.{fill_on, fill_length, fill_done, below_rest, walk_on, walk_shorter}
+use Rattle.pk_similar.proofs.WalkLemmas.{fill_on, fill_length, fill_done}
+use Rattle.pk_values.proofs.WalkLemmas.{below_rest, walk_on, walk_shorter}
 use Rattle.pk_similar.proofs.filling.fill.Goals as goal
 
 pub loop-c-preserved : goal.loop-c-preserved

@@ -1,5 +1,6 @@
 use Rattle.std.proofs.Common.{sym, ◌∙◌}
-use Rattle.pk_similar.proofs.WalkLemmas.{strong_on, strong_off, strong_none, below_rest, walk_on, walk_shorter}
+use Rattle.pk_similar.proofs.WalkLemmas.{strong_on, strong_off, strong_none}
+use Rattle.pk_values.proofs.WalkLemmas.{below_rest, walk_on, walk_shorter}
 use Rattle.pk_similar.proofs.similarity.strong.Goals as goal
 
 -- the first column that decides

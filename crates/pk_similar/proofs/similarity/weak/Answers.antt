@@ -1,5 +1,6 @@
 use Rattle.std.proofs.Common.{sym, ◌∙◌}
-use Rattle.pk_similar.proofs.WalkLemmas.{weak_on, weak_off, weak_none, below_rest, walk_on, walk_shorter}
+use Rattle.pk_similar.proofs.WalkLemmas.{weak_on, weak_off, weak_none}
+use Rattle.pk_values.proofs.WalkLemmas.{below_rest, walk_on, walk_shorter}
 use Rattle.pk_similar.proofs.similarity.weak.Goals as goal
 
 -- the first column that decides

@@ -2,10 +2,10 @@ use Rattle.std.proofs.Common.{[], ◌∷◌, sym, ap, ◌∙◌}
 use Rattle.pk_engine.specs.Base.{Table, changed_by}
 use Rattle.pk_engine.specs.Keys.{key_broken}
 use Rattle.pk_engine.specs.Limits.{limit_refusals}
-use Rattle.pk_engine.proofs.AnswerLemmas.{first_of_front}
 use Rattle.pk_engine.proofs.CommitLemmas.{keys_decide, same_at, some_at, valid_at}
 use Rattle.pk_engine.proofs.StandsLemmas.{if_ok}
 use Rattle.pk_engine.proofs.engine.Engine.change_refusal.Goals as goal
+use Rattle.pk_values.proofs.RefusalLemmas.{first_before}
 
 pub broken_key-requires-clause-valid : goal.broken_key-requires-clause-valid
 broken_key-requires-clause-valid c =
@@ -19,7 +19,7 @@ broken_key-requires-clause-of c =
 pub returns-in-Some-clause-stands : goal.returns-in-Some-clause-stands
 returns-in-Some-clause-stands c = λ st t stands is.
     let ch = c.args.changes.now in
-    sym (first_of_front (limit_refusals st t ch) (key_broken (changed_by ch t) ∷ []) c.in-Some.refusal (sym (c.in-Some.ensures.stands st t stands is)))
+    sym (first_before (limit_refusals st t ch) (key_broken (changed_by ch t) ∷ []) c.in-Some.refusal (sym (c.in-Some.ensures.stands st t stands is)))
 
 pub returns-clause-stands : goal.returns-clause-stands
 returns-clause-stands c =

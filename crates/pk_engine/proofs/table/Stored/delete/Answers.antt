@@ -5,9 +5,10 @@ use Rattle.pk_exec.specs.Answers.{IsCause}
 use Rattle.pk_exec.specs.Edits.{taken}
 use Rattle.pk_exec.specs.Refusals.{work_delete_refusals}
 use Rattle.pk_exec.specs.Rows.{AscendFrom}
-use Rattle.pk_exec.specs.Works.{Covers, entries_of, size_elsewhere}
+use Rattle.pk_exec.specs.Works.{size_elsewhere}
+use Rattle.pk_exec.specs.Seen.{Covers, entries_of}
 use Rattle.pk_exec.specs.ListViews.{listed}
-use Rattle.pk_engine.specs.declared.table.TheConstants.{TABLE}
+use Rattle.pk_engine.specs.declared.table.editing.TheConstants.{TABLE}
 use Rattle.pk_engine.specs.Base.{Table}
 use Rattle.pk_engine.specs.Edits.{entries_in, delete_entries}
 use Rattle.pk_engine.proofs.WorkLemmas.{valid_ascends, new_fits, new_covers, work_settled, delete_refusals_are, delete_count_is, delete_entries_are}

@@ -1,9 +1,9 @@
 use Rattle.std.proofs.Common.{◌≡◌, ap, sym, subst}
 use Rattle.pk_values.specs.declared.changes.Changes.{Changes}
 use Rattle.pk_exec.specs.Rows.{AscendFrom}
-use Rattle.pk_exec.specs.Works.{Covers, entries_of}
+use Rattle.pk_exec.specs.Seen.{Covers, entries_of}
 use Rattle.pk_engine.specs.declared.outcome.Outcome.TheVariants.{Done}
-use Rattle.pk_engine.specs.declared.table.TheConstants.{TABLE}
+use Rattle.pk_engine.specs.declared.table.editing.TheConstants.{TABLE}
 use Rattle.pk_engine.specs.Base.{Table}
 use Rattle.pk_engine.specs.Edits.{changes_in}
 use Rattle.pk_engine.proofs.WorkLemmas.{valid_ascends}

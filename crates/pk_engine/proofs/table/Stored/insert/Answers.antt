@@ -4,8 +4,8 @@ use Rattle.pk_schema.specs.Shapes.{Shape}
 use Rattle.pk_bind.specs.Insert.{new_rows}
 use Rattle.pk_exec.specs.Edits.{inserted_into}
 use Rattle.pk_exec.specs.Refusals.{work_insert_refusals}
-use Rattle.pk_exec.specs.Works.{entries_of}
-use Rattle.pk_engine.specs.declared.table.TheConstants.{TABLE}
+use Rattle.pk_exec.specs.Seen.{entries_of}
+use Rattle.pk_engine.specs.declared.table.editing.TheConstants.{TABLE}
 use Rattle.pk_engine.specs.Base.{Table}
 use Rattle.pk_engine.specs.Edits.{insert_entries}
 use Rattle.pk_engine.proofs.WorkLemmas.{new_fits, new_covers, new_entries, new_size, work_settled}

@@ -4,7 +4,7 @@ use Rattle.pk_schema.specs.Shapes.{Shape}
 use Rattle.pk_schema.specs.Admits.{Admits}
 use Rattle.pk_exec.specs.declared.table_edits.EditedRow.{EditedRow}
 use Rattle.pk_exec.specs.Drafts.{change_fits}
-use Rattle.pk_exec.specs.Works.{Fits, IsAdmitted}
+use Rattle.pk_exec.specs.Seen.{Fits, IsAdmitted}
 use Rattle.pk_exec.proofs.SettleLemmas.{settled_others, settled_covers, settled_fits, ok_curried}
 use Rattle.pk_exec.proofs.work.Work.change.Goals as goal
 

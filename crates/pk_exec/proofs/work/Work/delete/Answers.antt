@@ -1,15 +1,13 @@
-use Rattle.std.proofs.Common.{◌≡◌, ◌∙◌, ap, sym, subst, None, Ok, ℕ, IsTrue}
-use Rattle.std.specs.Prelude.{Result}
+use Rattle.std.proofs.Common.{◌∙◌, ap, subst}
 use Rattle.pk_bind.specs.Bound.{IsBound}
-use Rattle.pk_bind.specs.declared.edit.Edit.{Edit}
 use Rattle.pk_bind.specs.Delete.{delete_refusals}
 use Rattle.pk_bind.specs.Conditions.{cond_asked}
 use Rattle.pk_exec.specs.declared.change.Change.{Change}
-use Rattle.pk_exec.specs.declared.exec_err.ExecErr.{ExecErr}
 use Rattle.pk_exec.specs.Fates.{removal}
 use Rattle.pk_exec.specs.Settling.{IsChanged}
-use Rattle.pk_exec.proofs.StatementLemmas.{first_before, delete_answered, delete_seen, on_ok}
+use Rattle.pk_exec.proofs.StatementLemmas.{delete_answered, delete_seen, on_ok}
 use Rattle.pk_exec.proofs.work.Work.delete.Goals as goal
+use Rattle.pk_values.proofs.RefusalLemmas.{first_before}
 
 pub returns-in-Refused-clause-answer : goal.returns-in-Refused-clause-answer
 returns-in-Refused-clause-answer g c tells =

@@ -1,18 +1,17 @@
-use Rattle.std.proofs.Common.{◌≡◌, ◌∙◌, ap, sym, subst, List, All, length, ◌∷◌, [], ℕ, ◌+◌}
-use Rattle.std.specs.Prelude.{OnOk}
-use Rattle.pk_values.specs.declared.placed.Placed.{Placed}
+use Rattle.std.proofs.Common.{◌≡◌, ◌∙◌, ap, subst, List, All, length, ◌∷◌, [], ℕ, ◌+◌}
 use Rattle.pk_values.specs.declared.value.Value.{Value}
 use Rattle.pk_schema.specs.Admits.{Admits}
 use Rattle.pk_bind.specs.Bound.{IsBound, IfReady}
 use Rattle.pk_bind.specs.Insert.{insert_refusals, new_rows}
-use Rattle.pk_exec.specs.Works.{Edits, Covers, Fits, SameElsewhere, entries_of, edits_at, with_table, add_rows, work_size}
+use Rattle.pk_exec.specs.Works.{work_size}
+use Rattle.pk_exec.specs.Seen.{entries_of}
 use Rattle.pk_exec.specs.Edits.{inserted_into}
 use Rattle.pk_exec.specs.Answers.{InsertAnswers}
 use Rattle.pk_exec.specs.Refusals.{many_changes}
-use Rattle.pk_exec.proofs.StatementLemmas.{first_before}
 use Rattle.pk_exec.proofs.InsertLemmas.{rows_counted, insert_answered, inserted_by}
 use Rattle.pk_exec.proofs.AppendLemmas.{added_others, added_seen, added_covers, added_fits}
 use Rattle.pk_exec.proofs.work.Work.insert.Goals as goal
+use Rattle.pk_values.proofs.RefusalLemmas.{first_before}
 
 pub returns-in-Refused-clause-answer : goal.returns-in-Refused-clause-answer
 returns-in-Refused-clause-answer c =

@@ -1,14 +1,12 @@
-use Rattle.std.proofs.Common.{◌≡◌, ◌∙◌, ap, sym, subst, None, Ok, ℕ, IsTrue}
-use Rattle.std.specs.Prelude.{Result}
+use Rattle.std.proofs.Common.{◌∙◌, ap, subst}
 use Rattle.pk_bind.specs.Bound.{IsBound}
-use Rattle.pk_bind.specs.declared.edit.Edit.{Edit}
 use Rattle.pk_bind.specs.Update.{update_refusals, edit_of}
 use Rattle.pk_exec.specs.declared.change.Change.{Change}
-use Rattle.pk_exec.specs.declared.exec_err.ExecErr.{ExecErr}
 use Rattle.pk_exec.specs.Fates.{edit_change}
 use Rattle.pk_exec.specs.Settling.{IsChanged}
-use Rattle.pk_exec.proofs.StatementLemmas.{first_before, update_answered, update_seen, on_ok}
+use Rattle.pk_exec.proofs.StatementLemmas.{update_answered, update_seen, on_ok}
 use Rattle.pk_exec.proofs.work.Work.update.Goals as goal
+use Rattle.pk_values.proofs.RefusalLemmas.{first_before}
 
 pub returns-in-Refused-clause-answer : goal.returns-in-Refused-clause-answer
 returns-in-Refused-clause-answer g c tells =

@@ -1,5 +1,5 @@
 use Rattle.std.proofs.Common.{◌≡◌, ◌++◌, drop}
-use Rattle.pk_exec.specs.Works.{put_edits}
+use Rattle.pk_exec.specs.Told.{put_edits}
 use Rattle.pk_exec.proofs.work.telling.edited_rows.Given as goal
 
 abbrev pub invariant-loop-edit : goal.invariant-loop-edit

@@ -1,5 +1,5 @@
 use Rattle.std.proofs.Common.{◌≡◌, ◌++◌, drop}
-use Rattle.pk_exec.specs.Works.{gone_edits}
+use Rattle.pk_exec.specs.Told.{gone_edits}
 use Rattle.pk_exec.proofs.work.telling.gone_ids.Given as goal
 
 abbrev pub invariant-loop-edit : goal.invariant-loop-edit

@@ -1,6 +1,6 @@
 use Rattle.std.proofs.Common.{◌≡◌, ◌+◌, ◌++◌, drop}
 use Rattle.pk_exec.specs.Changes.{placed_from}
-use Rattle.pk_exec.specs.Works.{put_edits}
+use Rattle.pk_exec.specs.Told.{put_edits}
 use Rattle.pk_exec.proofs.work.telling.put_rows.Given as goal
 
 -- the rows put so far, and those to come under the ids to come, are all

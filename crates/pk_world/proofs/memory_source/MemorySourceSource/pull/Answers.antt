@@ -13,6 +13,8 @@ part_then_rest bytes part behind at n fits is =
     ∙ take-append-drop n (drop at bytes))
 
 pub returns-clause-next : goal.returns-clause-next
-returns-clause-next c = λ _.
-    part_then_rest c.args.self.now.bytes.items c.copy_from_slice.new.self _ c.args.self.now.at c.min-count.result
-    (omega arith) (c.copy_from_slice.ensures.after ∙ ap (λ (x : List ℕ). take ((c.args.self.now.at + c.min-count.result) - c.args.self.now.at) (drop c.args.self.now.at x)) c.deref-2.ensures.value)
+returns-clause-next c =
+    let s = c.fails_now.new.self in
+    sym c.fails_now.ensures.bytes
+    ∙ part_then_rest s.bytes.items c.copy_from_slice.new.self _ s.at c.min-count.result (omega arith)
+    (c.copy_from_slice.ensures.after ∙ ap (λ (x : List ℕ). take ((s.at + c.min-count.result) - s.at) (drop s.at x)) c.deref.ensures.value)
