@@ -100,7 +100,7 @@ fn limited(what: LimitName) -> &'static [u8] {
 }
 
 /// Fails where another thing was told of the case than what is wanted.
-pub(crate) fn is_told(rt: &impl Abort, case: &[u8], told: &[u8], want: &[u8]) {
+pub(crate) fn assert_told(rt: &impl Abort, case: &[u8], told: &[u8], want: &[u8]) {
     let text = str::from_utf8(case).unwrap_or("a case");
     assert!(rt; told == want, "{text}");
 }

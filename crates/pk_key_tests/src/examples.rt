@@ -1,6 +1,6 @@
 //! Keys of declared tables, and the rows that are shown for them.
 
-use crate::declared::{cut, is_told, question, schema, write_values};
+use crate::declared::{assert_told, cut, question, schema, write_values};
 use pk_examples::{TwoRows, two_rows};
 use pk_parse::TableDecl;
 use pk_schema::{Schema, key_of};
@@ -51,7 +51,7 @@ fn rows_are_shown_for_keys(rt: HostRuntime) -> Result<(), Fail> {
         let (declared, rest) = cut(case);
         let (key, rows) = cut(rest);
         let told = shown(alloc, columns, declared, key)?;
-        is_told(&rt, case, told.as_slice(), rows);
+        assert_told(&rt, case, told.as_slice(), rows);
     }
     Ok(())
 }

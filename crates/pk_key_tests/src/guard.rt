@@ -4,7 +4,7 @@ ghost use Rattle.std.specs.Prelude.{All, IsTrue};
 ghost use Rattle.pk_schema.specs.Admits.{Admits};
 ghost use Rattle.pk_guard.specs.Changed.{IdsAscend, RowsAscend};
 
-use crate::declared::{cut, digit, is_told, schema, sort_letter, value, write_values};
+use crate::declared::{assert_told, cut, digit, schema, sort_letter, value, write_values};
 use pk_guard::{BuildErr, Guard, keys_hold_where_nothing_breaks};
 use pk_schema::Schema;
 use pk_values::{Break, Changes, Items, MOST_COLUMNS, Memory, Placed, Row, Value};
@@ -44,7 +44,7 @@ fn first_break_of_rows_is_told(rt: HostRuntime) -> Result<(), Fail> {
         let schema = schema(alloc, COLUMNS, keys)?;
         let rows = rows_of(alloc, rows)?;
         let told = built(alloc, &schema, rows.as_slice())?;
-        is_told(&rt, case, told.as_slice(), want);
+        assert_told(&rt, case, told.as_slice(), want);
     }
     Ok(())
 }
@@ -82,7 +82,7 @@ fn first_break_of_changes_is_told(rt: HostRuntime) -> Result<(), Fail> {
         let schema = schema(alloc, COLUMNS, keys)?;
         let rows = rows_of(alloc, rows)?;
         let told = changed_by(alloc, &schema, rows.as_slice(), gone, put)?;
-        is_told(&rt, case, told.as_slice(), want);
+        assert_told(&rt, case, told.as_slice(), want);
     }
     Ok(())
 }

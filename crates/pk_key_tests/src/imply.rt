@@ -2,7 +2,7 @@
 
 ghost use Rattle.std.specs.Prelude.{◌<◌, ◌^◌, length};
 
-use crate::declared::{cause, cut, digit, is_told, question, schema, sort_letter};
+use crate::declared::{assert_told, cause, cut, digit, question, schema, sort_letter};
 use pk_imply::{AskErr, asked_key, cover, derive, implies};
 use pk_parse::TableDecl;
 use pk_schema::Schema;
@@ -92,10 +92,10 @@ fn keys_are_asked_about(rt: HostRuntime) -> Result<(), Fail> {
         let (declared, rest) = cut(case);
         let (asked, want) = cut(rest);
         let told = answer(alloc, columns, declared, asked)?;
-        is_told(&rt, case, told.as_slice(), want);
+        assert_told(&rt, case, told.as_slice(), want);
     }
     let told = answer(alloc, MANY, b"", MANY_KEYS)?;
-    is_told(&rt, b"all columns", told.as_slice(), ALL_MAY);
+    assert_told(&rt, b"all columns", told.as_slice(), ALL_MAY);
     Ok(())
 }
 
@@ -198,7 +198,7 @@ fn keys_are_covered(rt: HostRuntime) -> Result<(), Fail> {
     let alloc = rt.alloc();
     for [columns, declared, want] in &COVERED {
         let told = covering(alloc, columns, declared)?;
-        is_told(&rt, declared, told.as_slice(), want);
+        assert_told(&rt, declared, told.as_slice(), want);
     }
     let schema = schema(alloc, MANY, MANY_KEYS)?;
     assert!(rt; schema.columns().len() == 32 && schema.keys().len() == 32);

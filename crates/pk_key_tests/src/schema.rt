@@ -1,6 +1,6 @@
 //! Declarations by their texts.
 
-use crate::declared::{cause, cut, declaration, is_told, schema_of};
+use crate::declared::{assert_told, cause, cut, declaration, schema_of};
 use pk_parse::print_table;
 use pk_schema::{MakeErr, Schema};
 use pk_values::{Bytes, Memory, Name};
@@ -32,13 +32,13 @@ fn declarations_are_refused(rt: HostRuntime) -> Result<(), Fail> {
     for case in &REFUSED {
         let (script, want) = cut(case);
         let told = refusal(alloc, script)?;
-        is_told(&rt, case, told.as_slice(), want);
+        assert_told(&rt, case, told.as_slice(), want);
     }
     for case in &WIDE {
         let (last, want) = cut(case);
         let script = wide(alloc, last)?;
         let told = refusal(alloc, script.as_slice())?;
-        is_told(&rt, case, told.as_slice(), want);
+        assert_told(&rt, case, told.as_slice(), want);
     }
     Ok(())
 }
@@ -75,9 +75,9 @@ fn declarations_are_made(rt: HostRuntime) -> Result<(), Fail> {
     for case in &PRINTED {
         let (script, text) = cut(case);
         let bytes = printed(alloc, script)?;
-        is_told(&rt, case, bytes.as_slice(), text);
+        assert_told(&rt, case, bytes.as_slice(), text);
         let again = printed(alloc, text)?;
-        is_told(&rt, case, again.as_slice(), text);
+        assert_told(&rt, case, again.as_slice(), text);
     }
     Ok(())
 }
