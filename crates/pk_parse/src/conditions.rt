@@ -8,7 +8,7 @@ ghost use Rattle.pk_parse.specs.ConditionGrammar.{ReadsConditions};
 use crate::condition::{Op, Operand, Test};
 use crate::lists::Part;
 use crate::literal::Literal;
-use crate::miss::Miss;
+use crate::miss::{Miss, Parsed};
 use crate::tokens::{after_symbol, after_word, expect_symbol, expect_word, name_of};
 use pk_lex::{Symbol, Token};
 use pk_values::{Items, Name};
@@ -38,7 +38,7 @@ pub fn conditions_at_their_edges()
 // The condition at the front of the tokens, and the tokens behind it. What is read next is told by the
 // token at the front alone, so each is read once, and what is too deep is refused where it begins.
 #[tactic(auto, unfolding(crate::specs::Conditions::condition_at))]
-pub(crate) fn condition_of(alloc: Global, tokens: &[Token]) -> Result<(Test, &[Token]), Miss>
+pub(crate) fn condition_of(alloc: Global, tokens: &[Token]) -> Parsed<'_, Test>
     ensures { Finds result (condition_at tokens.now) }
 {
     joined_of(alloc, Joint::Or, LEVELS, tokens)
@@ -46,12 +46,7 @@ pub(crate) fn condition_of(alloc: Global, tokens: &[Token]) -> Result<(Test, &[T
 
 // Members with the joint's word between each two.
 #[cycle(conditions)]
-fn joined_of(
-    alloc: Global,
-    joint: Joint,
-    levels: u32,
-    tokens: &[Token],
-) -> Result<(Test, &[Token]), Miss>
+fn joined_of(alloc: Global, joint: Joint, levels: u32, tokens: &[Token]) -> Parsed<'_, Test>
     ensures { Finds result (joined_at joint (member_at joint (unit_at levels)) tokens.now) }
 {
     let (first, rest) = member_of(alloc, joint, levels, tokens)?;
@@ -70,7 +65,7 @@ fn members_of(
     levels: u32,
     first: Test,
     tokens: &[Token],
-) -> Result<(Items<Test>, &[Token]), Miss>
+) -> Parsed<'_, Items<Test>>
     ensures { Finds result (with_first first (members_at (word_of joint) (member_at joint (unit_at levels)) (length tokens.now) tokens.now)) }
 {
     let mut members = Vec::new(alloc);
@@ -89,12 +84,7 @@ fn members_of(
 
 // What the joint joins.
 #[cycle(conditions)]
-fn member_of(
-    alloc: Global,
-    joint: Joint,
-    levels: u32,
-    tokens: &[Token],
-) -> Result<(Test, &[Token]), Miss>
+fn member_of(alloc: Global, joint: Joint, levels: u32, tokens: &[Token]) -> Parsed<'_, Test>
     ensures { Finds result (member_at joint (unit_at levels) tokens.now) }
 {
     match joint {
@@ -106,7 +96,7 @@ fn member_of(
 // A unit, where it stands on one of so many levels.
 #[cycle(conditions)]
 #[tactic(auto, unfolding(crate::specs::Conditions::unit_at))]
-fn unit_of(alloc: Global, levels: u32, tokens: &[Token]) -> Result<(Test, &[Token]), Miss>
+fn unit_of(alloc: Global, levels: u32, tokens: &[Token]) -> Parsed<'_, Test>
     ensures { Finds result (unit_at levels tokens.now) }
 {
     if levels == 0 {
@@ -123,7 +113,7 @@ fn unit_of(alloc: Global, levels: u32, tokens: &[Token]) -> Result<(Test, &[Toke
 
 // Behind NOT: the unit that it denies.
 #[cycle(conditions)]
-fn negation_of(alloc: Global, levels: u32, tokens: &[Token]) -> Result<(Test, &[Token]), Miss>
+fn negation_of(alloc: Global, levels: u32, tokens: &[Token]) -> Parsed<'_, Test>
     ensures { Finds result (negation_at (unit_at levels) tokens.now) }
 {
     let (test, rest) = unit_of(alloc, levels, tokens)?;
@@ -132,7 +122,7 @@ fn negation_of(alloc: Global, levels: u32, tokens: &[Token]) -> Result<(Test, &[
 
 // Behind an opening parenthesis: a condition, and the closing one.
 #[cycle(conditions)]
-fn inside_of(alloc: Global, levels: u32, tokens: &[Token]) -> Result<(Test, &[Token]), Miss>
+fn inside_of(alloc: Global, levels: u32, tokens: &[Token]) -> Parsed<'_, Test>
     ensures { Finds result (inside_at (unit_at levels) tokens.now) }
 {
     let (test, rest) = joined_of(alloc, Joint::Or, levels, tokens)?;
@@ -162,7 +152,7 @@ fn group_of(joint: Joint, members: Items<Test>) -> Test
 
 // What is asked of one column.
 #[tactic(auto, unfolding(crate::specs::Conditions::column_test_at))]
-fn column_test_of(alloc: Global, tokens: &[Token]) -> Result<(Test, &[Token]), Miss>
+fn column_test_of(alloc: Global, tokens: &[Token]) -> Parsed<'_, Test>
     ensures { Finds result (column_test_at tokens.now) }
 {
     let (column, rest) = name_of(tokens)?;
@@ -174,7 +164,7 @@ fn column_test_of(alloc: Global, tokens: &[Token]) -> Result<(Test, &[Token]), M
 
 // Behind a column and IS: [ NOT ] NULL
 #[tactic(auto, unfolding(crate::specs::Conditions::null_test_at))]
-fn null_test_of(column: Name, tokens: &[Token]) -> Result<(Test, &[Token]), Miss>
+fn null_test_of(column: Name, tokens: &[Token]) -> Parsed<'_, Test>
     ensures { Finds result (null_test_at column tokens.now) }
 {
     match after_word(b"not", tokens) {
@@ -184,7 +174,7 @@ fn null_test_of(column: Name, tokens: &[Token]) -> Result<(Test, &[Token]), Miss
 }
 
 // NULL, behind a column and IS or IS NOT.
-fn null_of(column: Name, not: bool, tokens: &[Token]) -> Result<(Test, &[Token]), Miss>
+fn null_of(column: Name, not: bool, tokens: &[Token]) -> Parsed<'_, Test>
     ensures { Finds result (null_behind column not tokens.now) }
 {
     let behind = expect_word(b"null", tokens)?;
@@ -193,7 +183,7 @@ fn null_of(column: Name, not: bool, tokens: &[Token]) -> Result<(Test, &[Token])
 
 // Behind a column: how it is compared, and with what.
 #[tactic(auto, unfolding(crate::specs::Conditions::comparison_at))]
-fn comparison_of(alloc: Global, column: Name, tokens: &[Token]) -> Result<(Test, &[Token]), Miss>
+fn comparison_of(alloc: Global, column: Name, tokens: &[Token]) -> Parsed<'_, Test>
     ensures { Finds result (comparison_at column tokens.now) }
 {
     let (op, rest) = op_of(tokens)?;
@@ -203,7 +193,7 @@ fn comparison_of(alloc: Global, column: Name, tokens: &[Token]) -> Result<(Test,
 
 // A comparison's symbol.
 #[tactic(auto, unfolding(crate::specs::Conditions::op_at))]
-fn op_of(tokens: &[Token]) -> Result<(Op, &[Token]), Miss>
+fn op_of(tokens: &[Token]) -> Parsed<'_, Op>
     ensures { Finds result (op_at tokens.now) }
 {
     match tokens {
@@ -237,7 +227,7 @@ fn op_for(symbol: Symbol) -> Option<Op>
 
 // A literal, or the name of a column.
 #[tactic(auto, unfolding(crate::specs::Conditions::operand_at))]
-fn operand_of(alloc: Global, tokens: &[Token]) -> Result<(Operand, &[Token]), Miss>
+fn operand_of(alloc: Global, tokens: &[Token]) -> Parsed<'_, Operand>
     ensures { Finds result (operand_at tokens.now) }
 {
     match Literal::read(alloc, tokens) {
@@ -247,7 +237,7 @@ fn operand_of(alloc: Global, tokens: &[Token]) -> Result<(Operand, &[Token]), Mi
     }
 }
 
-fn column_operand_of(tokens: &[Token]) -> Result<(Operand, &[Token]), Miss>
+fn column_operand_of(tokens: &[Token]) -> Parsed<'_, Operand>
     ensures { Finds result (column_operand (name_at tokens.now)) }
 {
     let (column, behind) = name_of(tokens)?;

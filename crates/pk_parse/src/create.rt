@@ -7,7 +7,7 @@ use crate::declaration::KeyText;
 use crate::declared::declared;
 use crate::lists::{Part, names_of, parens_of};
 use crate::literals::number_within;
-use crate::miss::Miss;
+use crate::miss::{Miss, Parsed};
 use crate::statement::Statement;
 use crate::table_part::{ColumnForm, ColumnText, KeyPart, Mark, TablePart};
 use crate::tokens::{after_word, digits_of, expect_symbol, expect_word, name_of};
@@ -17,7 +17,7 @@ use std::alloc::Global;
 
 // TABLE name ( part , .. )
 #[tactic(auto, unfolding(crate::specs::Create::create_at))]
-pub(crate) fn create_of(alloc: Global, tokens: &[Token]) -> Result<(Statement, &[Token]), Miss>
+pub(crate) fn create_of(alloc: Global, tokens: &[Token]) -> Parsed<'_, Statement>
     ensures { Finds result (create_at tokens.now) }
 {
     let behind = expect_word(b"table", tokens)?;
@@ -31,7 +31,7 @@ impl Part for TablePart {
     ghost at = { part_at };
 
     #[tactic(auto, unfolding(crate::specs::Create::part_at))]
-    fn read(alloc: Global, tokens: &[Token]) -> Result<(TablePart, &[Token]), Miss> {
+    fn read(alloc: Global, tokens: &[Token]) -> Parsed<'_, TablePart> {
         match name_of(tokens) {
             Ok((name, behind)) => column_behind(alloc, name, behind),
             Err(Miss::NotStatement) => part_key_of(alloc, tokens),
@@ -42,7 +42,7 @@ impl Part for TablePart {
 
 // type { NOT NULL or UNIQUE or PRIMARY KEY }, behind the column's name.
 #[tactic(auto, unfolding(crate::specs::Create::column_behind))]
-fn column_behind(alloc: Global, name: Name, tokens: &[Token]) -> Result<(TablePart, &[Token]), Miss>
+fn column_behind(alloc: Global, name: Name, tokens: &[Token]) -> Parsed<'_, TablePart>
     ensures { Finds result (column_behind name tokens.now) }
 {
     let (form, behind) = form_of(tokens)?;
@@ -52,7 +52,7 @@ fn column_behind(alloc: Global, name: Name, tokens: &[Token]) -> Result<(TablePa
 
 // INTEGER, INT, BIGINT, TEXT, or VARCHAR ( number )
 #[tactic(auto, unfolding(crate::specs::Create::form_at))]
-fn form_of(tokens: &[Token]) -> Result<(ColumnForm, &[Token]), Miss>
+fn form_of(tokens: &[Token]) -> Parsed<'_, ColumnForm>
     ensures { Finds result (form_at tokens.now) }
 {
     if let Some(behind) = after_word(b"integer", tokens) {
@@ -90,7 +90,7 @@ fn text_form(max: u8) -> ColumnForm
 
 // ( number ), with a value from 1 to 255.
 #[tactic(auto, unfolding(crate::specs::Create::varchar_at))]
-fn varchar_of(tokens: &[Token]) -> Result<(ColumnForm, &[Token]), Miss>
+fn varchar_of(tokens: &[Token]) -> Parsed<'_, ColumnForm>
     ensures { Finds result (varchar_at tokens.now) }
 {
     let inside = expect_symbol(Symbol::LeftParen, tokens)?;
@@ -111,7 +111,7 @@ fn length_of(digits: &[u8]) -> Option<u8>
 }
 
 // As many marks as there are.
-fn marks_of(alloc: Global, tokens: &[Token]) -> Result<(Items<Mark>, &[Token]), Miss>
+fn marks_of(alloc: Global, tokens: &[Token]) -> Parsed<'_, Items<Mark>>
     ensures { Finds result (Some (marks_at (length tokens.now) tokens.now)) }
 {
     let mut marks = Vec::new(alloc);
@@ -152,7 +152,7 @@ fn mark_behind(mark: Mark, behind: Option<&[Token]>) -> Option<(Mark, &[Token])>
 }
 
 #[tactic(auto, unfolding(crate::specs::Create::part_key_at))]
-fn part_key_of(alloc: Global, tokens: &[Token]) -> Result<(TablePart, &[Token]), Miss>
+fn part_key_of(alloc: Global, tokens: &[Token]) -> Parsed<'_, TablePart>
     ensures { Finds result (part_key_at tokens.now) }
 {
     let (key, behind) = key_part_of(alloc, tokens)?;
@@ -161,7 +161,7 @@ fn part_key_of(alloc: Global, tokens: &[Token]) -> Result<(TablePart, &[Token]),
 
 // POSSIBLE KEY names, CERTAIN KEY names, UNIQUE names, or PRIMARY KEY names
 #[tactic(auto, unfolding(crate::specs::Create::key_part_at))]
-fn key_part_of(alloc: Global, tokens: &[Token]) -> Result<(KeyPart, &[Token]), Miss>
+fn key_part_of(alloc: Global, tokens: &[Token]) -> Parsed<'_, KeyPart>
     ensures { Finds result (key_part_at tokens.now) }
 {
     if let Some(behind) = after_word(b"unique", tokens) {
@@ -175,7 +175,7 @@ fn key_part_of(alloc: Global, tokens: &[Token]) -> Result<(KeyPart, &[Token]), M
 
 // names, as a possible key.
 #[tactic(auto, unfolding(crate::specs::Create::unique_at))]
-fn unique_of(alloc: Global, tokens: &[Token]) -> Result<(KeyPart, &[Token]), Miss>
+fn unique_of(alloc: Global, tokens: &[Token]) -> Parsed<'_, KeyPart>
     ensures { Finds result (unique_at tokens.now) }
 {
     let (columns, behind) = names_of(alloc, tokens)?;
@@ -194,7 +194,7 @@ fn unique_of(alloc: Global, tokens: &[Token]) -> Result<(KeyPart, &[Token]), Mis
 
 // KEY names, as a primary key.
 #[tactic(auto, unfolding(crate::specs::Create::primary_at))]
-fn primary_of(alloc: Global, tokens: &[Token]) -> Result<(KeyPart, &[Token]), Miss>
+fn primary_of(alloc: Global, tokens: &[Token]) -> Parsed<'_, KeyPart>
     ensures { Finds result (primary_at tokens.now) }
 {
     let (key, behind) = keyed_of(alloc, Sort::Certain, tokens)?;
@@ -202,7 +202,7 @@ fn primary_of(alloc: Global, tokens: &[Token]) -> Result<(KeyPart, &[Token]), Mi
 }
 
 #[tactic(auto, unfolding(crate::specs::Create::plain_key_at))]
-fn plain_key_of(alloc: Global, tokens: &[Token]) -> Result<(KeyPart, &[Token]), Miss>
+fn plain_key_of(alloc: Global, tokens: &[Token]) -> Parsed<'_, KeyPart>
     ensures { Finds result (plain_key_at tokens.now) }
 {
     let (key, behind) = key_of(alloc, tokens)?;
@@ -217,7 +217,7 @@ fn plain_key_of(alloc: Global, tokens: &[Token]) -> Result<(KeyPart, &[Token]), 
 
 // CERTAIN KEY names, or POSSIBLE KEY names
 #[tactic(auto, unfolding(crate::specs::Create::key_at))]
-pub(crate) fn key_of(alloc: Global, tokens: &[Token]) -> Result<(KeyText, &[Token]), Miss>
+pub(crate) fn key_of(alloc: Global, tokens: &[Token]) -> Parsed<'_, KeyText>
     ensures { Finds result (key_at tokens.now) }
 {
     if let Some(behind) = after_word(b"certain", tokens) {
@@ -231,7 +231,7 @@ pub(crate) fn key_of(alloc: Global, tokens: &[Token]) -> Result<(KeyText, &[Toke
 
 // KEY names, as a key of this sort.
 #[tactic(auto, unfolding(crate::specs::Create::keyed_at))]
-fn keyed_of(alloc: Global, sort: Sort, tokens: &[Token]) -> Result<(KeyText, &[Token]), Miss>
+fn keyed_of(alloc: Global, sort: Sort, tokens: &[Token]) -> Parsed<'_, KeyText>
     ensures { Finds result (keyed_at sort tokens.now) }
 {
     let behind = expect_word(b"key", tokens)?;

@@ -4,7 +4,7 @@ ghost use Rattle.pk_parse.specs.Edits.{tuple_at, listed_at, list_or_none_at, set
 use crate::edit::{Delete, Insert, SetPart, Update};
 use crate::lists::{Part, list_of, parens_of};
 use crate::literal::Literal;
-use crate::miss::Miss;
+use crate::miss::Parsed;
 use crate::statement::Statement;
 use crate::tokens::{after_symbol, expect_symbol, expect_word, name_of};
 use crate::where_clause::where_of;
@@ -16,7 +16,7 @@ impl Part for Items<Literal> {
     ghost at = { tuple_at };
 
     #[tactic(auto, unfolding(crate::specs::Edits::tuple_at))]
-    fn read(alloc: Global, tokens: &[Token]) -> Result<(Items<Literal>, &[Token]), Miss> {
+    fn read(alloc: Global, tokens: &[Token]) -> Parsed<'_, Items<Literal>> {
         parens_of::<Literal>(alloc, tokens)
     }
 }
@@ -25,7 +25,7 @@ impl Part for SetPart {
     ghost at = { set_at };
 
     #[tactic(auto, unfolding(crate::specs::Edits::set_at))]
-    fn read(alloc: Global, tokens: &[Token]) -> Result<(SetPart, &[Token]), Miss> {
+    fn read(alloc: Global, tokens: &[Token]) -> Parsed<'_, SetPart> {
         let (column, behind) = name_of(tokens)?;
         let behind = expect_symbol(Symbol::Equal, behind)?;
         let (value, behind) = Literal::read(alloc, behind)?;
@@ -35,7 +35,7 @@ impl Part for SetPart {
 
 // INTO name [ ( name , .. ) ] VALUES tuple , ..
 #[tactic(auto, unfolding(crate::specs::Edits::insert_at))]
-pub(crate) fn insert_of(alloc: Global, tokens: &[Token]) -> Result<(Statement, &[Token]), Miss>
+pub(crate) fn insert_of(alloc: Global, tokens: &[Token]) -> Parsed<'_, Statement>
     ensures { Finds result (insert_at tokens.now) }
 {
     let behind = expect_word(b"into", tokens)?;
@@ -53,7 +53,7 @@ pub(crate) fn insert_of(alloc: Global, tokens: &[Token]) -> Result<(Statement, &
 
 // name SET name = literal , .. [ WHERE cond ]
 #[tactic(auto, unfolding(crate::specs::Edits::update_at))]
-pub(crate) fn update_of(alloc: Global, tokens: &[Token]) -> Result<(Statement, &[Token]), Miss>
+pub(crate) fn update_of(alloc: Global, tokens: &[Token]) -> Parsed<'_, Statement>
     ensures { Finds result (update_at tokens.now) }
 {
     let (table, behind) = name_of(tokens)?;
@@ -65,7 +65,7 @@ pub(crate) fn update_of(alloc: Global, tokens: &[Token]) -> Result<(Statement, &
 
 // FROM name [ WHERE cond ]
 #[tactic(auto, unfolding(crate::specs::Edits::delete_at))]
-pub(crate) fn delete_of(alloc: Global, tokens: &[Token]) -> Result<(Statement, &[Token]), Miss>
+pub(crate) fn delete_of(alloc: Global, tokens: &[Token]) -> Parsed<'_, Statement>
     ensures { Finds result (delete_at tokens.now) }
 {
     let behind = expect_word(b"from", tokens)?;
@@ -76,7 +76,7 @@ pub(crate) fn delete_of(alloc: Global, tokens: &[Token]) -> Result<(Statement, &
 
 // The columns that an INSERT lists, if it lists any.
 #[tactic(auto, unfolding(crate::specs::Edits::list_or_none_at))]
-fn list_or_none_of(alloc: Global, tokens: &[Token]) -> Result<(Option<Items<Name>>, &[Token]), Miss>
+fn list_or_none_of(alloc: Global, tokens: &[Token]) -> Parsed<'_, Option<Items<Name>>>
     ensures { Finds result (list_or_none_at tokens.now) }
 {
     match after_symbol(Symbol::LeftParen, tokens) {
@@ -86,7 +86,7 @@ fn list_or_none_of(alloc: Global, tokens: &[Token]) -> Result<(Option<Items<Name
 }
 
 #[tactic(auto, unfolding(crate::specs::Edits::listed_at))]
-fn listed_of(alloc: Global, tokens: &[Token]) -> Result<(Option<Items<Name>>, &[Token]), Miss>
+fn listed_of(alloc: Global, tokens: &[Token]) -> Parsed<'_, Option<Items<Name>>>
     ensures { Finds result (listed_at tokens.now) }
 {
     let (names, behind) = parens_of::<Name>(alloc, tokens)?;

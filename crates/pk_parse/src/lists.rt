@@ -5,7 +5,7 @@ ghost use Rattle.pk_parse.specs.Reading.{Finds};
 ghost use Rattle.pk_parse.specs.Tokens.{Found, name_at};
 ghost use Rattle.pk_parse.specs.Lists.{stays_inside, room_for_parts, list_at, parens_at, names_at};
 
-use crate::miss::Miss;
+use crate::miss::Parsed;
 use crate::tokens::{after_symbol, expect_symbol, name_of};
 use pk_lex::{Symbol, Token};
 use pk_values::{Items, Name};
@@ -17,24 +17,21 @@ pub(crate) trait Part: Drop {
     ghost at: { List Entry → Found Self };
 
     /// Reads it.
-    fn read(alloc: Global, tokens: &[Token]) -> Result<(Self, &[Token]), Miss>
+    fn read(alloc: Global, tokens: &[Token]) -> Parsed<'_, Self>
         ensures { Finds result (at tokens.now) };
 }
 
 impl Part for Name {
     ghost at = { name_at };
 
-    fn read(_alloc: Global, tokens: &[Token]) -> Result<(Name, &[Token]), Miss> {
+    fn read(_alloc: Global, tokens: &[Token]) -> Parsed<'_, Name> {
         name_of(tokens)
     }
 }
 
 // At least one part, with commas between them, and the tokens behind the last.
 #[tactic(auto, unfolding(crate::specs::Lists::list_at))]
-pub(crate) fn list_of<T: Part>(
-    alloc: Global,
-    tokens: &[Token],
-) -> Result<(Items<T>, &[Token]), Miss>
+pub(crate) fn list_of<T: Part>(alloc: Global, tokens: &[Token]) -> Parsed<'_, Items<T>>
     ensures { Finds result (list_at T.at tokens.now) }
 {
     let (first, mut rest) = T::read(alloc, tokens)?;
@@ -78,10 +75,7 @@ fn stays_inside(token: &Token) -> bool
 
 // The same in parentheses.
 #[tactic(auto, unfolding(crate::specs::Lists::parens_at))]
-pub(crate) fn parens_of<T: Part>(
-    alloc: Global,
-    tokens: &[Token],
-) -> Result<(Items<T>, &[Token]), Miss>
+pub(crate) fn parens_of<T: Part>(alloc: Global, tokens: &[Token]) -> Parsed<'_, Items<T>>
     ensures { Finds result (parens_at T.at tokens.now) }
 {
     let inside = expect_symbol(Symbol::LeftParen, tokens)?;
@@ -92,7 +86,7 @@ pub(crate) fn parens_of<T: Part>(
 
 // Names in parentheses, or nothing in parentheses.
 #[tactic(auto, unfolding(crate::specs::Lists::names_at))]
-pub(crate) fn names_of(alloc: Global, tokens: &[Token]) -> Result<(Items<Name>, &[Token]), Miss>
+pub(crate) fn names_of(alloc: Global, tokens: &[Token]) -> Parsed<'_, Items<Name>>
     ensures { Finds result (names_at tokens.now) }
 {
     let inside = expect_symbol(Symbol::LeftParen, tokens)?;

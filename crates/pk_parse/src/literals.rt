@@ -5,7 +5,7 @@ ghost use Rattle.pk_lex.specs.declared.token.Token.TheVariants.{Text as TextToke
 
 use crate::lists::Part;
 use crate::literal::Literal;
-use crate::miss::Miss;
+use crate::miss::{Miss, Parsed};
 use crate::tokens::{digits_of, expect_symbol, expect_word};
 use pk_lex::{Symbol, Token};
 use pk_values::Bytes;
@@ -15,7 +15,7 @@ impl Part for Literal {
     ghost at = { literal_at };
 
     #[tactic(auto, unfolding(crate::specs::Literals::literal_at))]
-    fn read(alloc: Global, tokens: &[Token]) -> Result<(Literal, &[Token]), Miss> {
+    fn read(alloc: Global, tokens: &[Token]) -> Parsed<'_, Literal> {
         match tokens {
             [] => Err(Miss::NotStatement),
             [Token::Word(_), ..] => null_of(tokens),
@@ -31,7 +31,7 @@ impl Part for Literal {
 
 // NULL
 #[tactic(auto, unfolding(crate::specs::Literals::null_at))]
-fn null_of(tokens: &[Token]) -> Result<(Literal, &[Token]), Miss>
+fn null_of(tokens: &[Token]) -> Parsed<'_, Literal>
     ensures { Finds result (null_at tokens.now) }
 {
     let behind = expect_word(b"null", tokens)?;
@@ -40,7 +40,7 @@ fn null_of(tokens: &[Token]) -> Result<(Literal, &[Token]), Miss>
 
 // - number
 #[tactic(auto, unfolding(crate::specs::Literals::negative_at))]
-fn negative_of(tokens: &[Token]) -> Result<(Literal, &[Token]), Miss>
+fn negative_of(tokens: &[Token]) -> Parsed<'_, Literal>
     ensures { Finds result (negative_at tokens.now) }
 {
     let behind = expect_symbol(Symbol::Minus, tokens)?;

@@ -1,8 +1,12 @@
 ghost use Rattle.std.specs.Prelude.{◌≡◌};
 ghost use Rattle.pk_parse.specs.declared.miss.Miss.TheVariants.{Memory};
 
+use pk_lex::Token;
 use pk_values::Memory;
 use std::alloc::{AllocError, AllocFailed};
+
+/// What tokens begin with and the tokens behind it, or why it wasn't read.
+pub(crate) type Parsed<'a, T> = Result<(T, &'a [Token]), Miss>;
 
 /// Why tokens weren't read as what was asked for.
 #[derive(Clone, Copy, Debug, PartialEq, Eq)]

@@ -3,7 +3,7 @@ ghost use Rattle.pk_parse.specs.Reading.{Finds};
 ghost use Rattle.pk_parse.specs.Queries.{count_at, columns_at, what_at, direction_at, order_part_at, order_by_at, order_at, order_of_at, select_at};
 
 use crate::lists::{Part, list_of};
-use crate::miss::Miss;
+use crate::miss::Parsed;
 use crate::query::{OrderPart, Select, What};
 use crate::statement::Statement;
 use crate::tokens::{after_symbol, after_word, expect_symbol, expect_word, name_of};
@@ -14,7 +14,7 @@ use std::alloc::Global;
 
 // what FROM name [ WHERE cond ] [ ORDER BY .. ]
 #[tactic(auto, unfolding(crate::specs::Queries::select_at))]
-pub(crate) fn select_of(alloc: Global, tokens: &[Token]) -> Result<(Statement, &[Token]), Miss>
+pub(crate) fn select_of(alloc: Global, tokens: &[Token]) -> Parsed<'_, Statement>
     ensures { Finds result (select_at tokens.now) }
 {
     let (what, behind) = what_of(alloc, tokens)?;
@@ -33,7 +33,7 @@ pub(crate) fn select_of(alloc: Global, tokens: &[Token]) -> Result<(Statement, &
 
 // *, COUNT ( * ), or name , ..
 #[tactic(auto, unfolding(crate::specs::Queries::what_at))]
-fn what_of(alloc: Global, tokens: &[Token]) -> Result<(What, &[Token]), Miss>
+fn what_of(alloc: Global, tokens: &[Token]) -> Parsed<'_, What>
     ensures { Finds result (what_at tokens.now) }
 {
     if let Some(behind) = after_symbol(Symbol::Star, tokens) {
@@ -47,7 +47,7 @@ fn what_of(alloc: Global, tokens: &[Token]) -> Result<(What, &[Token]), Miss>
 
 // ( * )
 #[tactic(auto, unfolding(crate::specs::Queries::count_at))]
-fn count_of(tokens: &[Token]) -> Result<(What, &[Token]), Miss>
+fn count_of(tokens: &[Token]) -> Parsed<'_, What>
     ensures { Finds result (count_at tokens.now) }
 {
     let behind = expect_symbol(Symbol::LeftParen, tokens)?;
@@ -58,7 +58,7 @@ fn count_of(tokens: &[Token]) -> Result<(What, &[Token]), Miss>
 
 // name , ..
 #[tactic(auto, unfolding(crate::specs::Queries::columns_at))]
-fn columns_of(alloc: Global, tokens: &[Token]) -> Result<(What, &[Token]), Miss>
+fn columns_of(alloc: Global, tokens: &[Token]) -> Parsed<'_, What>
     ensures { Finds result (columns_at tokens.now) }
 {
     let (names, behind) = list_of::<Name>(alloc, tokens)?;
@@ -66,11 +66,7 @@ fn columns_of(alloc: Global, tokens: &[Token]) -> Result<(What, &[Token]), Miss>
 }
 
 // [ ORDER BY .. ] behind what is asked for: a count has no order.
-fn order_behind<'a>(
-    alloc: Global,
-    what: &What,
-    tokens: &'a [Token],
-) -> Result<(Items<OrderPart>, &'a [Token]), Miss>
+fn order_behind<'a>(alloc: Global, what: &What, tokens: &'a [Token]) -> Parsed<'a, Items<OrderPart>>
     ensures { Finds result (order_of_at what.now tokens.now) }
 {
     match what {
@@ -81,7 +77,7 @@ fn order_behind<'a>(
 
 // [ ORDER BY name [ ASC or DESC ] , .. ]
 #[tactic(auto, unfolding(crate::specs::Queries::order_at))]
-fn order_of(alloc: Global, tokens: &[Token]) -> Result<(Items<OrderPart>, &[Token]), Miss>
+fn order_of(alloc: Global, tokens: &[Token]) -> Parsed<'_, Items<OrderPart>>
     ensures { Finds result (order_at tokens.now) }
 {
     match after_word(b"order", tokens) {
@@ -92,7 +88,7 @@ fn order_of(alloc: Global, tokens: &[Token]) -> Result<(Items<OrderPart>, &[Toke
 
 // BY name [ ASC or DESC ] , ..
 #[tactic(auto, unfolding(crate::specs::Queries::order_by_at))]
-fn order_by_of(alloc: Global, tokens: &[Token]) -> Result<(Items<OrderPart>, &[Token]), Miss>
+fn order_by_of(alloc: Global, tokens: &[Token]) -> Parsed<'_, Items<OrderPart>>
     ensures { Finds result (order_by_at tokens.now) }
 {
     let behind = expect_word(b"by", tokens)?;
@@ -103,7 +99,7 @@ impl Part for OrderPart {
     ghost at = { order_part_at };
 
     #[tactic(auto, unfolding(crate::specs::Queries::order_part_at))]
-    fn read(_alloc: Global, tokens: &[Token]) -> Result<(OrderPart, &[Token]), Miss> {
+    fn read(_alloc: Global, tokens: &[Token]) -> Parsed<'_, OrderPart> {
         let (column, behind) = name_of(tokens)?;
         let (down, behind) = direction_of(behind);
         Ok((OrderPart { column, down }, behind))

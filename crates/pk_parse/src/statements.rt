@@ -6,7 +6,7 @@ ghost use Rattle.pk_parse.specs.Statements.{drop_at, session_at, show_at, implie
 use crate::create::{create_of, key_of};
 use crate::edits::{delete_of, insert_of, update_of};
 use crate::lists::names_of;
-use crate::miss::Miss;
+use crate::miss::{Miss, Parsed};
 use crate::queries::select_of;
 use crate::statement::Statement;
 use crate::tokens::{after_word, expect_word, name_of};
@@ -29,7 +29,7 @@ pub(crate) fn read(alloc: Global, tokens: &[Token]) -> Result<Statement, Miss>
 
 // The statement at the front of the tokens, and the tokens behind it.
 #[tactic(auto, unfolding(crate::specs::Statements::statement_at))]
-fn statement_of(alloc: Global, tokens: &[Token]) -> Result<(Statement, &[Token]), Miss>
+fn statement_of(alloc: Global, tokens: &[Token]) -> Parsed<'_, Statement>
     ensures { Finds result (statement_at tokens.now) }
 {
     match tokens {
@@ -39,11 +39,7 @@ fn statement_of(alloc: Global, tokens: &[Token]) -> Result<(Statement, &[Token])
 }
 
 // The statement that begins with this word, and goes on in these tokens.
-fn statement_behind<'a>(
-    alloc: Global,
-    word: &[u8],
-    tokens: &'a [Token],
-) -> Result<(Statement, &'a [Token]), Miss>
+fn statement_behind<'a>(alloc: Global, word: &[u8], tokens: &'a [Token]) -> Parsed<'a, Statement>
     ensures { Finds result (found_by readers word.now tokens.now) }
 {
     if is_same(word, b"create") {
@@ -91,7 +87,7 @@ fn is_same(word: &[u8], other: &[u8]) -> bool
 
 // TABLE name
 #[tactic(auto, unfolding(crate::specs::Statements::drop_at))]
-fn drop_of(tokens: &[Token]) -> Result<(Statement, &[Token]), Miss>
+fn drop_of(tokens: &[Token]) -> Parsed<'_, Statement>
     ensures { Finds result (drop_at tokens.now) }
 {
     let behind = expect_word(b"table", tokens)?;
@@ -101,7 +97,7 @@ fn drop_of(tokens: &[Token]) -> Result<(Statement, &[Token]), Miss>
 
 // name
 #[tactic(auto, unfolding(crate::specs::Statements::session_at))]
-fn session_of(tokens: &[Token]) -> Result<(Statement, &[Token]), Miss>
+fn session_of(tokens: &[Token]) -> Parsed<'_, Statement>
     ensures { Finds result (session_at tokens.now) }
 {
     let (name, behind) = name_of(tokens)?;
@@ -110,7 +106,7 @@ fn session_of(tokens: &[Token]) -> Result<(Statement, &[Token]), Miss>
 
 // CREATE TABLE name
 #[tactic(auto, unfolding(crate::specs::Statements::show_at))]
-fn show_of(tokens: &[Token]) -> Result<(Statement, &[Token]), Miss>
+fn show_of(tokens: &[Token]) -> Parsed<'_, Statement>
     ensures { Finds result (show_at tokens.now) }
 {
     let behind = expect_word(b"create", tokens)?;
@@ -121,7 +117,7 @@ fn show_of(tokens: &[Token]) -> Result<(Statement, &[Token]), Miss>
 
 // name CERTAIN KEY names, or name POSSIBLE KEY names
 #[tactic(auto, unfolding(crate::specs::Statements::implies_at))]
-fn implies_of(alloc: Global, tokens: &[Token]) -> Result<(Statement, &[Token]), Miss>
+fn implies_of(alloc: Global, tokens: &[Token]) -> Parsed<'_, Statement>
     ensures { Finds result (implies_at tokens.now) }
 {
     let (table, behind) = name_of(tokens)?;
@@ -131,7 +127,7 @@ fn implies_of(alloc: Global, tokens: &[Token]) -> Result<(Statement, &[Token]), 
 
 // OF name
 #[tactic(auto, unfolding(crate::specs::Statements::cover_at))]
-fn cover_of(tokens: &[Token]) -> Result<(Statement, &[Token]), Miss>
+fn cover_of(tokens: &[Token]) -> Parsed<'_, Statement>
     ensures { Finds result (cover_at tokens.now) }
 {
     let behind = expect_word(b"of", tokens)?;
@@ -141,7 +137,7 @@ fn cover_of(tokens: &[Token]) -> Result<(Statement, &[Token]), Miss>
 
 // OF name
 #[tactic(auto, unfolding(crate::specs::Statements::examples_at))]
-fn examples_of(tokens: &[Token]) -> Result<(Statement, &[Token]), Miss>
+fn examples_of(tokens: &[Token]) -> Parsed<'_, Statement>
     ensures { Finds result (examples_at tokens.now) }
 {
     let behind = expect_word(b"of", tokens)?;
@@ -151,7 +147,7 @@ fn examples_of(tokens: &[Token]) -> Result<(Statement, &[Token]), Miss>
 
 // KEYS FROM name [ OVER names ]
 #[tactic(auto, unfolding(crate::specs::Statements::discover_at))]
-fn discover_of(alloc: Global, tokens: &[Token]) -> Result<(Statement, &[Token]), Miss>
+fn discover_of(alloc: Global, tokens: &[Token]) -> Parsed<'_, Statement>
     ensures { Finds result (discover_at tokens.now) }
 {
     let behind = expect_word(b"keys", tokens)?;
@@ -163,7 +159,7 @@ fn discover_of(alloc: Global, tokens: &[Token]) -> Result<(Statement, &[Token]),
 
 // [ OVER names ]
 #[tactic(auto, unfolding(crate::specs::Statements::over_at))]
-fn over_of(alloc: Global, tokens: &[Token]) -> Result<(Option<Items<Name>>, &[Token]), Miss>
+fn over_of(alloc: Global, tokens: &[Token]) -> Parsed<'_, Option<Items<Name>>>
     ensures { Finds result (over_at tokens.now) }
 {
     match after_word(b"over", tokens) {
@@ -173,7 +169,7 @@ fn over_of(alloc: Global, tokens: &[Token]) -> Result<(Option<Items<Name>>, &[To
 }
 
 #[tactic(auto, unfolding(crate::specs::Statements::over_names_at))]
-fn over_names_of(alloc: Global, tokens: &[Token]) -> Result<(Option<Items<Name>>, &[Token]), Miss>
+fn over_names_of(alloc: Global, tokens: &[Token]) -> Parsed<'_, Option<Items<Name>>>
     ensures { Finds result (over_names_at tokens.now) }
 {
     let (names, behind) = names_of(alloc, tokens)?;

@@ -2,7 +2,7 @@ ghost use Rattle.std.specs.Prelude.{◌≡◌, option_map};
 ghost use Rattle.pk_parse.specs.Reading.{Finds, FindsBytes, Passes};
 ghost use Rattle.pk_parse.specs.Tokens.{after_word, after_symbol, name_at, digits_at};
 
-use crate::miss::Miss;
+use crate::miss::{Miss, Parsed};
 use crate::words::is_reserved;
 use pk_lex::{Symbol, Token};
 use pk_values::Name;
@@ -53,7 +53,7 @@ pub(crate) fn expect_symbol(symbol: Symbol, tokens: &[Token]) -> Result<&[Token]
 
 // A name, and the tokens behind it.
 #[tactic(auto, unfolding(crate::specs::Tokens::name_at))]
-pub(crate) fn name_of(tokens: &[Token]) -> Result<(Name, &[Token]), Miss>
+pub(crate) fn name_of(tokens: &[Token]) -> Parsed<'_, Name>
     ensures { Finds result (name_at tokens.now) }
 {
     match tokens {
@@ -70,7 +70,7 @@ pub(crate) fn name_of(tokens: &[Token]) -> Result<(Name, &[Token]), Miss>
 
 // The digits of a number, and the tokens behind it.
 #[tactic(auto, unfolding(crate::specs::Tokens::digits_at))]
-pub(crate) fn digits_of(tokens: &[Token]) -> Result<(&[u8], &[Token]), Miss>
+pub(crate) fn digits_of(tokens: &[Token]) -> Parsed<'_, &[u8]>
     ensures { FindsBytes result (digits_at tokens.now) }
 {
     match tokens {

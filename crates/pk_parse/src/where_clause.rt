@@ -3,14 +3,14 @@ ghost use Rattle.pk_parse.specs.Where.{tested_at, where_at};
 
 use crate::condition::Test;
 use crate::conditions::condition_of;
-use crate::miss::Miss;
+use crate::miss::Parsed;
 use crate::tokens::after_word;
 use pk_lex::Token;
 use std::alloc::Global;
 
 // [ WHERE cond ]
 #[tactic(auto, unfolding(crate::specs::Where::where_at))]
-pub(crate) fn where_of(alloc: Global, tokens: &[Token]) -> Result<(Option<Test>, &[Token]), Miss>
+pub(crate) fn where_of(alloc: Global, tokens: &[Token]) -> Parsed<'_, Option<Test>>
     ensures { Finds result (where_at tokens.now) }
 {
     match after_word(b"where", tokens) {
@@ -20,7 +20,7 @@ pub(crate) fn where_of(alloc: Global, tokens: &[Token]) -> Result<(Option<Test>,
 }
 
 // cond, behind WHERE
-fn tested_of(alloc: Global, tokens: &[Token]) -> Result<(Option<Test>, &[Token]), Miss>
+fn tested_of(alloc: Global, tokens: &[Token]) -> Parsed<'_, Option<Test>>
     ensures { Finds result (tested_at tokens.now) }
 {
     let (test, behind) = condition_of(alloc, tokens)?;
