@@ -86,6 +86,8 @@ impl Source for MemorySource {
         requires { 0 < length room.old }
         ensures fails { has_failed result ≡ is_listed (failing_pulls self.old) (pull_count self.new) }
         ensures number { pull_count self.new ≡ min (pull_count self.old + 1) (2 ^ 64 - 1) }
+        ensures failing { failing_pulls self.new ≡ failing_pulls self.old }
+        ensures step { step_of self.new ≡ step_of self.old }
         ensures most { IfGot result (λ n. n ≡ min (min (length (bytes_left self.old)) (step_of self.old)) (length room.old)) }
         ensures some { IfGot result (λ n. 0 < n) }
         ensures next { IfGot result (λ n. bytes_left self.old ≡ take n room.new ++ bytes_left self.new) }

@@ -78,7 +78,7 @@ impl MemoryStation {
 impl Station for MemoryStation {
     ghost use Rattle.std.specs.Prelude.{◌≡◌, ℕ, ◌+◌, ◌-◌, ◌^◌, ◌≤◌, ◌++◌, true, false, length, min, take, OnOk, OnErr};
     ghost use Rattle.pk_world.specs.Listed.{is_listed};
-    ghost use Rattle.pk_world.specs.MemoryStation.{taken, failing_calls, call_count, sink_fault_count};
+    ghost use Rattle.pk_world.specs.MemoryStation.{taken, file_of, failing_calls, call_count, sink_fault_count};
     ghost use Rattle.pk_world.specs.Rose.{Rose};
 
     ghost tells = { λ _. true };
@@ -91,6 +91,9 @@ impl Station for MemoryStation {
     fn tell(&mut self, bytes: &[u8]) -> Result<(), Failed>
         ensures fails { OnOk result (is_listed (failing_calls self.old) (call_count self.new) ≡ false) }
         ensures number { call_count self.new ≡ min (call_count self.old + 1) (2 ^ 64 - 1) }
+        ensures failing { failing_calls self.new ≡ failing_calls self.old }
+        ensures log { file_of self.new Which.Log ≡ file_of self.old Which.Log }
+        ensures pages { file_of self.new Which.Pages ≡ file_of self.old Which.Pages }
         ensures ok { OnOk result (taken self.new ≡ taken self.old ++ bytes.now) }
         ensures err { (n : ℕ) × (n ≤ length bytes.now) × (taken self.new ≡ taken self.old ++ take n bytes.now) }
         ensures count { sink_fault_count self.old ≤ sink_fault_count self.new }
