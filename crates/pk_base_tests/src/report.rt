@@ -1,7 +1,9 @@
 //! Replies by their bytes.
 
 use pk_report::{Example, Reply, reply_text};
-use pk_values::{Bytes, ColSet, Items, KeyDecl, Name, Refusal, Row, Rule, Sort, Value, Words};
+use pk_values::{
+    Break, Bytes, ColSet, Items, KeyDecl, Name, Refusal, Row, Rule, Sort, Value, Words,
+};
 use std::alloc::Global;
 use std::process::Abort;
 use std::test::Fail;
@@ -89,13 +91,14 @@ fn names_and_texts_are_told(rt: HostRuntime) -> Result<(), Fail> {
     )?;
     let table = named(alloc, b"t")?;
     let values = mixed(alloc)?;
-    let refusal = Refusal::CertainKey {
+    let broken = Break {
         key: 1,
-        table,
+        sort: Sort::Certain,
         low: 1,
         high: 2,
         values,
     };
+    let refusal = Refusal::BrokenKey { table, broken };
     assert_told(
         &rt,
         alloc,

@@ -6,6 +6,7 @@ use Rattle.pk_values.specs.declared.broken.Break.{Break}
 use Rattle.pk_values.specs.declared.changes.Changes.{Changes}
 use Rattle.pk_values.specs.declared.placed.Placed.{Placed}
 use Rattle.pk_values.specs.declared.refusal.Refusal.{Refusal}
+use Rattle.pk_values.specs.declared.refusal.Refusal.TheVariants.{BrokenKey}
 use Rattle.pk_values.specs.Refusals.{first_some}
 use Rattle.pk_schema.specs.Shapes.{IsShape}
 use Rattle.pk_schema.specs.Admits.{Admits}
@@ -16,7 +17,7 @@ use Rattle.pk_engine.specs.Base.{Table, changed_by}
 use Rattle.pk_engine.specs.State.{State}
 use Rattle.pk_engine.specs.Refusing.{Step, refused, decided, about, about_found, table_of}
 use Rattle.pk_engine.specs.Limits.{limit_refusals}
-use Rattle.pk_engine.specs.Keys.{key_refusal, key_broken, KeepsKeys}
+use Rattle.pk_engine.specs.Keys.{key_broken, KeepsKeys}
 use Rattle.pk_engine.specs.Edits.{is_unchanged, change_refusals, commit_refusals, changes_in, entries_in, insert_entries, insert_refusals, inserted, update_entries, update_refusals, updated_rows, delete_entries, delete_refusals, deleted_rows}
 use Rattle.pk_engine.specs.Entries.{AreOf}
 use Rattle.pk_engine.specs.Valid.{IsValidTable}
@@ -34,13 +35,13 @@ use Rattle.pk_values.proofs.RefusalLemmas.{front_free}
 -- ---- a table whose keys are judged
 
 -- a key that is refused shows its break
-refused_shows : (t : Table) → IsShape t.shape → All (λ (p : Placed). Admits t.shape p.row) t.rows → ¬ KeepsKeys t → (b : Break) × (key_broken t ≡ Some (key_refusal t.name b)) × ShowsBreak t b
+refused_shows : (t : Table) → IsShape t.shape → All (λ (p : Placed). Admits t.shape p.row) t.rows → ¬ KeepsKeys t → (b : Break) × (key_broken t ≡ Some (BrokenKey t.name b)) × ShowsBreak t b
 unfolding key_broken
 refused_shows t shape rows fails = go (first_break t.shape t.rows) refl
   where
-    go : (o : Option Break) → first_break t.shape t.rows ≡ o → (b : Break) × (option_map (key_refusal t.name) o ≡ Some (key_refusal t.name b)) × ShowsBreak t b
+    go : (o : Option Break) → first_break t.shape t.rows ≡ o → (b : Break) × (option_map (BrokenKey t.name) o ≡ Some (BrokenKey t.name b)) × ShowsBreak t b
     go (Some b) is = (b, refl, breaks_show_two_rows t.shape t.rows b shape rows is)
-    go None is = absurd (fails (unbroken_hold t shape rows (ap (option_map (key_refusal t.name)) is)))
+    go None is = absurd (fails (unbroken_hold t shape rows (ap (option_map (BrokenKey t.name)) is)))
 
 -- ---- a statement that changes a table
 
@@ -77,14 +78,14 @@ is_held false st t own c done valid of free keeps =
 
 is_broken : (b : Bool) (st : State) (t : Table) (own : List (Option Refusal)) (c : Changes) (done : Step) → is_unchanged c ≡ b → IsValidTable t → AreOf t c
     → first_some (before_by b st t own c) ≡ None → ¬ KeepsKeys (changed_by c t)
-    → (w : Break) × (decided st (asked_by b st t own c) done ≡ refused st (key_refusal t.name w)) × ShowsBreak (changed_by c t) w
+    → (w : Break) × (decided st (asked_by b st t own c) done ≡ refused st (BrokenKey t.name w)) × ShowsBreak (changed_by c t) w
 is_broken true st t own c done same valid of free fails = absurd (fails (subst KeepsKeys (sym (unchanged_by c t same)) valid.keys))
 is_broken false st t own c done same valid of free fails =
     let admitted = changed_admitted t c valid of in
     let shown = refused_shows (changed_by c t) admitted.0 admitted.1 fails in
-    let is = shown.1 ∙ ap (λ (name : List ℕ). Some (key_refusal name shown.0)) (changed_is_same c t).0 in (
+    let is = shown.1 ∙ ap (λ (name : List ℕ). Some (BrokenKey name shown.0)) (changed_is_same c t).0 in (
       shown.0,
-      ap (λ (rs : List (Option Refusal)). decided st rs done) (keys_behind st t own c) ∙ keys_refuse st (before_by false st t own c) (key_broken (changed_by c t)) done (key_refusal t.name shown.0) free is,
+      ap (λ (rs : List (Option Refusal)). decided st rs done) (keys_behind st t own c) ∙ keys_refuse st (before_by false st t own c) (key_broken (changed_by c t)) done (BrokenKey t.name shown.0) free is,
       shown.2,
     )
 

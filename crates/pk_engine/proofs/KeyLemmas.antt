@@ -1,5 +1,5 @@
 -- Keys of a table before and after changes.
-use Rattle.std.proofs.Common.{◌≡◌, ℕ, ◌+◌, List, [], ◌∷◌, Option, Some, None, refl, sym, ◌∙◌, ap, subst}
+use Rattle.std.proofs.Common.{◌≡◌, ℕ, ◌+◌, List, [], ◌∷◌, Option, Some, None, refl, sym, ◌∙◌, ap}
 use Rattle.std.specs.Option.{option_map}
 use Rattle.std.specs.List.{All}
 use Rattle.std.proofs.lemmas.List.Elements.{All-nil}
@@ -9,6 +9,7 @@ use Rattle.pk_values.specs.declared.key.KeyDecl.{KeyDecl}
 use Rattle.pk_values.specs.declared.kind.Kind.{Kind}
 use Rattle.pk_values.specs.declared.placed.Placed.{Placed}
 use Rattle.pk_values.specs.declared.refusal.Refusal.{Refusal}
+use Rattle.pk_values.specs.declared.refusal.Refusal.TheVariants.{BrokenKey}
 use Rattle.pk_schema.specs.Shapes.{Shape, IsShape, kinds_of}
 use Rattle.pk_schema.specs.Admits.{Admits}
 use Rattle.pk_guard.specs.Breaks.{first_pair, first_broken, first_break}
@@ -17,7 +18,7 @@ use Rattle.pk_guard.specs.Holds.{KeysHold}
 use Rattle.pk_guard.proofs.KeyLemmas.{keys_hold_nothing_breaks}
 use Rattle.pk_engine.specs.Base.{Table, changed_by}
 use Rattle.pk_engine.specs.Entries.{AreOf}
-use Rattle.pk_engine.specs.Keys.{key_refusal, key_broken}
+use Rattle.pk_engine.specs.Keys.{key_broken}
 use Rattle.pk_engine.specs.Valid.{IsValidTable}
 use Rattle.pk_engine.proofs.PutLemmas.{rows_changed}
 use Rattle.pk_engine.proofs.RowLemmas.{changed_is_same}
@@ -42,16 +43,16 @@ none_mapped f (Some b) none = absurd cc
 -- a table that is refused for no key keeps all of them
 pub unbroken_hold : (t : Table) → IsShape t.shape → All (λ (p : Placed). Admits t.shape p.row) t.rows → key_broken t ≡ None → KeysHold t.shape t.rows
 unfolding key_broken
-unbroken_hold t shape rows free = (keys_hold_nothing_breaks t.shape t.rows shape rows).1 (none_mapped (key_refusal t.name) (first_break t.shape t.rows) free)
+unbroken_hold t shape rows free = (keys_hold_nothing_breaks t.shape t.rows shape rows).1 (none_mapped (BrokenKey t.name) (first_break t.shape t.rows) free)
 
 -- and one that keeps them is refused for none
 pub held_unbroken : (t : Table) → IsShape t.shape → All (λ (p : Placed). Admits t.shape p.row) t.rows → KeysHold t.shape t.rows → key_broken t ≡ None
 unfolding key_broken
-held_unbroken t shape rows held = ap (option_map (key_refusal t.name)) ((keys_hold_nothing_breaks t.shape t.rows shape rows).0 held)
+held_unbroken t shape rows held = ap (option_map (BrokenKey t.name)) ((keys_hold_nothing_breaks t.shape t.rows shape rows).0 held)
 
 -- the break of the rows with changes is that of the table with them
-pub broken_by : (t : Table) (c : Changes) (o : Option Break) → IsValidTable t → AreOf t c → o ≡ first_break t.shape (changed_rows c t.rows) → option_map (key_refusal t.name) o ≡ key_broken (changed_by c t)
+pub broken_by : (t : Table) (c : Changes) (o : Option Break) → IsValidTable t → AreOf t c → o ≡ first_break t.shape (changed_rows c t.rows) → option_map (BrokenKey t.name) o ≡ key_broken (changed_by c t)
 unfolding key_broken
 broken_by t c o valid of is =
-    ap (option_map (key_refusal t.name)) (is ∙ ap (first_break t.shape) (rows_changed t c valid of) ∙ ap (λ (s : Shape). first_break s (changed_by c t).rows) (sym (changed_is_same c t).1))
-    ∙ ap (λ (name : List ℕ). option_map (key_refusal name) (first_break (changed_by c t).shape (changed_by c t).rows)) (sym (changed_is_same c t).0)
+    ap (option_map (BrokenKey t.name)) (is ∙ ap (first_break t.shape) (rows_changed t c valid of) ∙ ap (λ (s : Shape). first_break s (changed_by c t).rows) (sym (changed_is_same c t).1))
+    ∙ ap (λ (name : List ℕ). option_map (BrokenKey name) (first_break (changed_by c t).shape (changed_by c t).rows)) (sym (changed_is_same c t).0)

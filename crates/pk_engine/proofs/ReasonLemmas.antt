@@ -1,17 +1,15 @@
 -- What IMPLIES and COVER tell is true of all tables.
-use Rattle.std.proofs.Common.{◌≡◌, ℕ, ◌+◌, ◌<◌, ◌^◌, Bool, true, false, List, [], ◌∷◌, Option, Some, None, length, refl, sym, ap, subst, ◌∙◌}
+use Rattle.std.proofs.Common.{◌≡◌, ℕ, ◌+◌, ◌<◌, ◌^◌, Bool, true, false, Option, Some, None, length, refl, sym, ap, subst, ◌∙◌}
 use Rattle.std.specs.Option.{is_some}
 use Rattle.std.proofs.lemmas.List.{length-map}
 use Rattle.pk_values.specs.declared.key.KeyDecl.{KeyDecl}
-use Rattle.pk_values.specs.Refusals.{first_some}
 use Rattle.pk_parse.specs.declared.declaration.ColumnDecl.{ColumnDecl}
 use Rattle.pk_parse.specs.declared.declaration.KeyText.{KeyText}
 use Rattle.pk_parse.specs.Declarations.{has_name}
-use Rattle.pk_schema.specs.Shapes.{Shape, IsShape, key_of}
+use Rattle.pk_schema.specs.Shapes.{Shape, key_of}
 use Rattle.pk_schema.proofs.SetLemmas.{set_small}
 use Rattle.pk_rule.specs.Plain.{Plain, IsPlain, plain_of}
 use Rattle.pk_rule.specs.Rule.{is_implied}
-use Rattle.pk_rule.specs.Tables.{Implied, Refutes}
 use Rattle.pk_rule.specs.TwoRows.{low_row, high_row}
 use Rattle.pk_rule.proofs.RuleLemmas.{implied_holds, holds_implied, two_rows_are_table, two_rows_break}
 use Rattle.pk_rule.proofs.ShapeLemmas.{plain_shape}
@@ -20,9 +18,8 @@ use Rattle.pk_imply.specs.Deriving.{implying_place, rules_of}
 use Rattle.pk_imply.proofs.PlaceLemmas.{place_if_implied}
 use Rattle.pk_imply.proofs.RuleSteps.{rules_lead}
 use Rattle.pk_imply.proofs.TruthLemmas.{cover_computed}
-use Rattle.pk_engine.specs.Base.{Table}
-use Rattle.pk_engine.specs.State.{State, current}
-use Rattle.pk_engine.specs.Refusing.{Step, decided, about, table_of}
+use Rattle.pk_engine.specs.State.{State}
+use Rattle.pk_engine.specs.Refusing.{decided, about}
 use Rattle.pk_engine.specs.Reasoning.{implies_refusals, implied_or, implied_told, cover_told}
 use Rattle.pk_engine.specs.Answer.{answer}
 use Rattle.pk_engine.specs.ReasonLaws.{TellsTheTruth, ImpliesTellsTheTruth, CoverIsTold}

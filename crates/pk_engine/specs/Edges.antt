@@ -7,7 +7,7 @@ use Rattle.pk_values.specs.declared.placed.Placed.{Placed}
 use Rattle.pk_values.specs.declared.refusal.BaseLimitName.TheVariants as base_limits
 use Rattle.pk_values.specs.declared.refusal.LimitName.TheVariants as limits
 use Rattle.pk_values.specs.declared.refusal.Refusal.{Refusal}
-use Rattle.pk_values.specs.declared.refusal.Refusal.TheVariants.{TableExists, ManyChanges, Limit, BaseLimit, PossibleKey}
+use Rattle.pk_values.specs.declared.refusal.Refusal.TheVariants.{TableExists, ManyChanges, Limit, BaseLimit, BrokenKey}
 use Rattle.pk_values.specs.declared.value.Value.{Value}
 use Rattle.pk_values.specs.declared.value.Value.TheVariants.{Null, Integer}
 use Rattle.pk_values.specs.Refusals.{first_some}
@@ -103,7 +103,7 @@ pub record LimitsAtTheirEdges : Type 0 where
   pub the_last_id : adding 0 (most_ids - 1) Null ≡ None
   pub ids_before_commits : adding most_ids most_ids one ≡ Some (BaseLimit base_limits.RowIds)
   pub commits_before_keys : adding most_ids 2 one ≡ Some (BaseLimit base_limits.Commits)
-  pub a_key_at_last : adding 0 2 one ≡ Some (PossibleKey 1 (codes "t") 1 2 (one ∷ []))
+  pub a_key_at_last : adding 0 2 one ≡ Some (BrokenKey (codes "t") (record { key = 1; sort = Possible; low = 1; high = 2; values = one ∷ [] }))
   pub nothing_is_refused_without_a_change : commit_refusals (state most_ids []) (table (codes "t")) (record { gone = []; put = [] }) ≡ []
   pub changes_20000 : many_changes 20000 ≡ None
   pub changes_20001 : many_changes 20001 ≡ Some ManyChanges

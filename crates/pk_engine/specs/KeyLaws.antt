@@ -5,6 +5,7 @@ use Rattle.pk_values.specs.declared.changes.Changes.{Changes}
 use Rattle.pk_values.specs.declared.key.KeyDecl.{KeyDecl}
 use Rattle.pk_values.specs.declared.placed.Placed.{Placed}
 use Rattle.pk_values.specs.declared.refusal.Refusal.{Refusal}
+use Rattle.pk_values.specs.declared.refusal.Refusal.TheVariants.{BrokenKey}
 use Rattle.pk_values.specs.Refusals.{first_some}
 use Rattle.pk_parse.specs.declared.edit.Insert.{Insert}
 use Rattle.pk_parse.specs.declared.edit.Update.{Update}
@@ -17,7 +18,7 @@ use Rattle.pk_engine.specs.Base.{Table, changed_by}
 use Rattle.pk_engine.specs.State.{State, current}
 use Rattle.pk_engine.specs.Refusing.{Step, refused, table_of}
 use Rattle.pk_engine.specs.Limits.{limit_refusals}
-use Rattle.pk_engine.specs.Keys.{key_refusal, KeepsKeys}
+use Rattle.pk_engine.specs.Keys.{KeepsKeys}
 use Rattle.pk_engine.specs.Edits.{is_unchanged, changes_in, entries_in, insert_entries, inserted, update_entries, updated_rows, delete_entries, deleted_rows}
 use Rattle.pk_engine.specs.Valid.{IsValid}
 use Rattle.pk_engine.specs.Answer.{answer}
@@ -36,7 +37,7 @@ judged_before st t own c = own ++ (if is_unchanged c then [] else limit_refusals
 pub record IsJudged (st : State) (t : Table) (own : List (Option Refusal)) (c : Changes) (done answered : Step) : Type 0 where
   pub other : (r : Refusal) → first_some (judged_before st t own c) ≡ Some r → answered ≡ refused st r
   pub held : first_some (judged_before st t own c) ≡ None → KeepsKeys (changed_by c t) → answered ≡ done
-  pub broken : first_some (judged_before st t own c) ≡ None → ¬ KeepsKeys (changed_by c t) → (b : Break) × (answered ≡ refused st (key_refusal t.name b)) × ShowsBreak (changed_by c t) b
+  pub broken : first_some (judged_before st t own c) ≡ None → ¬ KeepsKeys (changed_by c t) → (b : Break) × (answered ≡ refused st (BrokenKey t.name b)) × ShowsBreak (changed_by c t) b
 
 -- INSERT, UPDATE and DELETE about a table
 pub record AreJudged (st : State) (t : Table) : Type 0 where

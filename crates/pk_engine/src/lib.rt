@@ -5,7 +5,6 @@
 
 mod answered;
 mod engine;
-mod keys;
 mod laws;
 mod outcome;
 mod rows;

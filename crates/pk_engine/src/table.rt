@@ -1,8 +1,7 @@
 ghost use Rattle.std.specs.Prelude.{◌≡◌, length, IfOk};
 ghost use Rattle.std.specs.Option.{option_map};
-ghost use Rattle.pk_engine.specs.Keys.{key_refusal};
+ghost use Rattle.pk_values.specs.declared.refusal.Refusal.TheVariants.{BrokenKey};
 
-use crate::keys::key_refusal;
 use pk_guard::{BuildErr, Guard};
 use pk_parse::print_table;
 use pk_schema::Schema;
@@ -111,10 +110,11 @@ fn guard_of_none(alloc: Global, schema: &Schema) -> Result<Guard, Memory> {
 
 // The refusal that shows the break, if there is one, of a key of the table of this name.
 fn refusal_of(table: &Name, broken: Option<Break>) -> Result<Option<Refusal>, Memory>
-    ensures { IfOk result (λ r. r ≡ option_map (key_refusal table.now) broken) }
+    ensures { IfOk result (λ r. r ≡ option_map (BrokenKey table.now) broken) }
 {
-    match broken {
-        Some(broken) => Ok(Some(key_refusal(table.copy()?, broken))),
-        None => Ok(None),
-    }
+    let Some(broken) = broken else {
+        return Ok(None);
+    };
+    let table = table.copy()?;
+    Ok(Some(Refusal::BrokenKey { table, broken }))
 }

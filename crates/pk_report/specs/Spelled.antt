@@ -1,12 +1,13 @@
-use Rattle.std.specs.Prelude.{◌≡◌, ℕ, negsuc, List, [], ◌∷◌, ◌++◌, codes}
+use Rattle.std.specs.Prelude.{◌≡◌, ℕ, negsuc, List, [], ◌∷◌, ◌+◌, ◌++◌, codes}
 use Rattle.std.specs.List.{flat_map}
+use Rattle.pk_values.specs.declared.broken.Break.{Break}
 use Rattle.pk_values.specs.declared.key.KeyDecl.{KeyDecl}
 use Rattle.pk_values.specs.declared.key.Sort.{Sort}
 use Rattle.pk_values.specs.declared.key.Sort.TheVariants as sorts
 use Rattle.pk_values.specs.declared.refusal.BaseLimitName.TheVariants as base_limits
 use Rattle.pk_values.specs.declared.refusal.LimitName.TheVariants as limits
 use Rattle.pk_values.specs.declared.refusal.SetsName.TheVariants as sets
-use Rattle.pk_values.specs.declared.refusal.Refusal.TheVariants.{BadCharacter, UnclosedText, NotStatement, NoTable, TableExists, NoColumn, ColumnTwice, ValueCount, WrongKind, WideNumber, LongText, NullValue, LongRow, Limit, Open, NoTransaction, Transactions, ManyChanges, Conflict, BaseLimit, CertainKey, PossibleKey, DiscoveryRows, KeySets}
+use Rattle.pk_values.specs.declared.refusal.Refusal.TheVariants.{BadCharacter, UnclosedText, NotStatement, NoTable, TableExists, NoColumn, ColumnTwice, ValueCount, WrongKind, WideNumber, LongText, NullValue, LongRow, Limit, Open, NoTransaction, Transactions, ManyChanges, Conflict, BaseLimit, BrokenKey, DiscoveryRows, KeySets}
 use Rattle.pk_values.specs.declared.rule.Rule.TheVariants.{Declared, Strengthen, Weaken, Extend}
 use Rattle.pk_values.specs.declared.value.Value.{Value}
 use Rattle.pk_values.specs.declared.value.Value.TheVariants.{Null, Integer, Text}
@@ -28,6 +29,9 @@ key sort set = record { sort = sort; columns = set }
 
 abbrev pub case : Sort → ℕ → Example
 case sort set = record { sort = sort; columns = set; low = mixed; high = [] }
+
+abbrev pub broken : ℕ → Sort → ℕ → List Value → Break
+broken key sort low values = record { key = key; sort = sort; low = low; high = low + 1; values = values }
 
 -- lines, each with a line feed
 abbrev pub lines : List (List ℕ) → List ℕ
@@ -90,8 +94,8 @@ pub record RefusalsAreSpelled : Type 0 where
   pub base_limit_refused : text (Refused (BaseLimit base_limits.Rows)) ≡ lines (codes "refused: limit rows 200000" ∷ [])
   pub base_limit_refused_2 : text (Refused (BaseLimit base_limits.RowIds)) ≡ lines (codes "refused: limit row ids 4611686018427387904" ∷ [])
   pub base_limit_refused_3 : text (Refused (BaseLimit base_limits.Commits)) ≡ lines (codes "refused: limit commits 4611686018427387904" ∷ [])
-  pub certain_key_refused : text (Refused (CertainKey 1 (codes "t") 1 2 mixed)) ≡ lines (codes "refused: certain key 1 of t: rows 1 and 2 agree in the completion (-1, NULL, 'O''Hara')" ∷ [])
-  pub possible_key_refused : text (Refused (PossibleKey 2 (codes "t") 3 4 [])) ≡ lines (codes "refused: possible key 2 of t: rows 3 and 4 agree on ()" ∷ [])
+  pub certain_key_refused : text (Refused (BrokenKey (codes "t") (broken 1 sorts.Certain 1 mixed))) ≡ lines (codes "refused: certain key 1 of t: rows 1 and 2 agree in the completion (-1, NULL, 'O''Hara')" ∷ [])
+  pub possible_key_refused : text (Refused (BrokenKey (codes "t") (broken 2 sorts.Possible 3 []))) ≡ lines (codes "refused: possible key 2 of t: rows 3 and 4 agree on ()" ∷ [])
   pub discovery_rows_refused : text (Refused DiscoveryRows) ≡ lines (codes "refused: limit discovery rows 8192" ∷ [])
   pub key_sets_refused : text (Refused (KeySets sets.Certain 13)) ≡ lines (codes "refused: limit certain sets 4096 at edge 13" ∷ [])
   pub key_sets_refused_2 : text (Refused (KeySets sets.Possible 1)) ≡ lines (codes "refused: limit possible sets 4096 at edge 1" ∷ [])

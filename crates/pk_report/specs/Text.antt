@@ -2,6 +2,7 @@ use Rattle.std.specs.Prelude.{ℕ, ◌==◌, List, [], ◌∷◌, ◌++◌, leng
 use Rattle.std.specs.List.{flat_map, join_by}
 use Rattle.std.specs.Fmt.{decimal, signed_decimal}
 use Rattle.pk_values.specs.ColumnSet.{columns}
+use Rattle.pk_values.specs.declared.broken.Break.{Break}
 use Rattle.pk_values.specs.declared.key.KeyDecl.{KeyDecl}
 use Rattle.pk_values.specs.declared.key.Sort.{Sort}
 use Rattle.pk_values.specs.declared.key.Sort.TheVariants as sorts
@@ -12,7 +13,7 @@ use Rattle.pk_values.specs.declared.refusal.LimitName.TheVariants as limits
 use Rattle.pk_values.specs.declared.refusal.SetsName.{SetsName}
 use Rattle.pk_values.specs.declared.refusal.SetsName.TheVariants as sets
 use Rattle.pk_values.specs.declared.refusal.Refusal.{Refusal}
-use Rattle.pk_values.specs.declared.refusal.Refusal.TheVariants.{BadCharacter, UnclosedText, NotStatement, NoTable, TableExists, NoColumn, ColumnTwice, ValueCount, WrongKind, WideNumber, LongText, NullValue, LongRow, Limit, Open, NoTransaction, Transactions, ManyChanges, Conflict, BaseLimit, CertainKey, PossibleKey, DiscoveryRows, KeySets}
+use Rattle.pk_values.specs.declared.refusal.Refusal.TheVariants.{BadCharacter, UnclosedText, NotStatement, NoTable, TableExists, NoColumn, ColumnTwice, ValueCount, WrongKind, WideNumber, LongText, NullValue, LongRow, Limit, Open, NoTransaction, Transactions, ManyChanges, Conflict, BaseLimit, BrokenKey, DiscoveryRows, KeySets}
 use Rattle.pk_values.specs.declared.rule.Rule.{Rule}
 use Rattle.pk_values.specs.declared.rule.Rule.TheVariants.{Declared, Strengthen, Weaken, Extend}
 use Rattle.pk_values.specs.declared.value.Value.{Value}
@@ -147,17 +148,21 @@ abbrev pub sets_limit_text : SetsName → List ℕ
 sets_limit_text sets.Certain = codes "certain sets 4096"
 sets_limit_text sets.Possible = codes "possible sets 4096"
 
--- two rows that break a certain key, and the values on which they agree
-unfoldable pub certain_key_text : ℕ → List ℕ → ℕ → ℕ → List Value → List ℕ
-certain_key_text key table low high values =
-    said (codes "certain key " ∷ decimal key ∷ codes " of " ∷ table ∷ codes ": rows " ∷ decimal low ∷ codes " and " ∷ decimal high
-    ∷ codes " agree in the completion " ∷ values_text values ∷ [])
+-- the sort of a key that is broken
+abbrev pub broken_words : Sort → List ℕ
+broken_words sorts.Certain = codes "certain key "
+broken_words sorts.Possible = codes "possible key "
 
--- two rows that break a possible key, and the values on which they agree
-unfoldable pub possible_key_text : ℕ → List ℕ → ℕ → ℕ → List Value → List ℕ
-possible_key_text key table low high values =
-    said (codes "possible key " ∷ decimal key ∷ codes " of " ∷ table ∷ codes ": rows " ∷ decimal low ∷ codes " and " ∷ decimal high
-    ∷ codes " agree on " ∷ values_text values ∷ [])
+-- how two rows that break a key of this sort agree
+abbrev pub agree_words : Sort → List ℕ
+agree_words sorts.Certain = codes " agree in the completion "
+agree_words sorts.Possible = codes " agree on "
+
+-- two rows of the table that break a key, and the values on which they agree
+unfoldable pub broken_text : List ℕ → Break → List ℕ
+broken_text table b =
+    said (broken_words b.sort ∷ decimal b.key ∷ codes " of " ∷ table ∷ codes ": rows " ∷ decimal b.low ∷ codes " and " ∷ decimal b.high
+    ∷ agree_words b.sort ∷ values_text b.values ∷ [])
 
 -- the words of a refusal
 abbrev pub refusal_text : Refusal → List ℕ
@@ -183,8 +188,7 @@ refusal_text ManyChanges = codes "limit changes 20000"
 refusal_text (Conflict row table commit) =
     said (codes "conflict on row " ∷ decimal row ∷ codes " of " ∷ table ∷ codes " with commit " ∷ decimal commit ∷ [])
 refusal_text (BaseLimit what) = codes "limit " ++ base_limit_text what
-refusal_text (CertainKey key table low high values) = certain_key_text key table low high values
-refusal_text (PossibleKey key table low high values) = possible_key_text key table low high values
+refusal_text (BrokenKey table broken) = broken_text table broken
 refusal_text DiscoveryRows = codes "limit discovery rows 8192"
 refusal_text (KeySets what edge) = codes "limit " ++ sets_limit_text what ++ codes " at edge " ++ decimal edge
 

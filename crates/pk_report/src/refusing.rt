@@ -1,11 +1,13 @@
 ghost use Rattle.std.specs.Prelude.{◌≡◌, ◌++◌, codes, IfOk};
+ghost use Rattle.std.specs.Fmt.{decimal};
 ghost use Rattle.std.specs.List.{flat_map};
+ghost use Rattle.pk_values.specs.declared.refusal.Refusal.TheVariants.{NoColumn, ValueCount, LongText, LongRow, Conflict, KeySets};
 ghost use Rattle.pk_report.specs.Part.{part_text};
-ghost use Rattle.pk_report.specs.Text.{line, refusal_text, certain_key_text, possible_key_text, limit_text, base_limit_text, sets_limit_text};
+ghost use Rattle.pk_report.specs.Text.{line, refusal_text, broken_words, agree_words, broken_text, limit_text, base_limit_text, sets_limit_text};
 
 use crate::line::write_line;
 use crate::part::Part::{self, Named, Number, Values, Words};
-use pk_values::{BaseLimitName, LimitName, Memory, Name, Refusal, Row, SetsName};
+use pk_values::{BaseLimitName, Break, LimitName, Memory, Name, Refusal, SetsName, Sort};
 use std::alloc::Global;
 
 /// The line of a refusal.
@@ -13,182 +15,174 @@ pub(crate) fn refused(alloc: Global, refusal: &Refusal) -> Result<Vec<u8>, Memor
     ensures { IfOk result (λ v. v.items ≡ line (codes "refused: " ++ refusal_text refusal.now)) }
 {
     match refusal {
-        Refusal::BadCharacter { line } => refused_for(
-            alloc,
-            &[Words(b"bad character on line "), Number(*line)],
-        ),
-        Refusal::UnclosedText { line } => refused_for(
-            alloc,
-            &[Words(b"unclosed text on line "), Number(*line)],
-        ),
-        Refusal::NotStatement { line } => refused_for(
-            alloc,
-            &[Words(b"not a statement on line "), Number(*line)],
-        ),
-        Refusal::NoTable { table } => refused_for(alloc, &[Words(b"no table "), Named(table)]),
-        Refusal::TableExists { table } => refused_for(
-            alloc,
-            &[Words(b"table "), Named(table), Words(b" exists")],
-        ),
-        Refusal::NoColumn { column, table } => refused_for(
-            alloc,
-            &[
-                Words(b"no column "),
-                Named(column),
-                Words(b" in "),
-                Named(table),
-            ],
-        ),
-        Refusal::ColumnTwice { column } => refused_for(
-            alloc,
-            &[Words(b"column "), Named(column), Words(b" twice")],
-        ),
-        Refusal::ValueCount { values, columns } => refused_for(
-            alloc,
-            &[
-                Number(*values),
-                Words(b" values for "),
-                Number(*columns),
-                Words(b" columns"),
-            ],
-        ),
-        Refusal::WrongKind { column } => refused_for(
-            alloc,
-            &[Words(b"wrong kind for column "), Named(column)],
-        ),
-        Refusal::WideNumber => refused_for(alloc, &[Words(b"number outside 64 bits")]),
+        Refusal::BadCharacter { line } => of_number(alloc, b"bad character on line ", *line),
+        Refusal::UnclosedText { line } => of_number(alloc, b"unclosed text on line ", *line),
+        Refusal::NotStatement { line } => of_number(alloc, b"not a statement on line ", *line),
+        Refusal::NoTable { table } => of_name(alloc, b"no table ", table),
+        Refusal::TableExists { table } => around_name(alloc, b"table ", table, b" exists"),
+        Refusal::NoColumn { column, table } => no_column(alloc, column, table),
+        Refusal::ColumnTwice { column } => around_name(alloc, b"column ", column, b" twice"),
+        Refusal::ValueCount { values, columns } => value_count(alloc, *values, *columns),
+        Refusal::WrongKind { column } => of_name(alloc, b"wrong kind for column ", column),
+        Refusal::WideNumber => of_words(alloc, b"number outside 64 bits"),
         Refusal::LongText {
             column,
             bytes,
             most,
-        } => refused_for(
-            alloc,
-            &[
-                Words(b"text of "),
-                Number(*bytes),
-                Words(b" bytes for column "),
-                Named(column),
-                Words(b", at most "),
-                Number(*most),
-            ],
-        ),
-        Refusal::NullValue { column } => refused_for(
-            alloc,
-            &[Words(b"null in column "), Named(column)],
-        ),
-        Refusal::LongRow { bytes } => refused_for(
-            alloc,
-            &[
-                Words(b"row of "),
-                Number(*bytes),
-                Words(b" bytes, at most 4000"),
-            ],
-        ),
-        Refusal::Limit { what } => refused_for(
-            alloc,
-            &[Words(b"limit "), Words(limit_words(*what))],
-        ),
-        Refusal::Open { session } => refused_for(
-            alloc,
-            &[Words(b"transaction open in "), Named(session)],
-        ),
-        Refusal::NoTransaction => refused_for(alloc, &[Words(b"no transaction")]),
-        Refusal::Transactions => refused_for(alloc, &[Words(b"limit transactions 16")]),
-        Refusal::ManyChanges => refused_for(alloc, &[Words(b"limit changes 20000")]),
-        Refusal::Conflict { row, table, commit } => refused_for(
-            alloc,
-            &[
-                Words(b"conflict on row "),
-                Number(*row),
-                Words(b" of "),
-                Named(table),
-                Words(b" with commit "),
-                Number(*commit),
-            ],
-        ),
-        Refusal::BaseLimit { what } => refused_for(
-            alloc,
-            &[Words(b"limit "), Words(base_limit_words(*what))],
-        ),
-        Refusal::CertainKey {
-            key,
-            table,
-            low,
-            high,
-            values,
-        } => certain_key(alloc, *key, table, *low, *high, values),
-        Refusal::PossibleKey {
-            key,
-            table,
-            low,
-            high,
-            values,
-        } => possible_key(alloc, *key, table, *low, *high, values),
-        Refusal::DiscoveryRows => refused_for(alloc, &[Words(b"limit discovery rows 8192")]),
-        Refusal::KeySets { what, edge } => refused_for(
-            alloc,
-            &[
-                Words(b"limit "),
-                Words(sets_limit_words(*what)),
-                Words(b" at edge "),
-                Number(u64::from(*edge)),
-            ],
-        ),
+        } => long_text(alloc, column, *bytes, *most),
+        Refusal::NullValue { column } => of_name(alloc, b"null in column ", column),
+        Refusal::LongRow { bytes } => long_row(alloc, *bytes),
+        Refusal::Limit { what } => of_limit(alloc, limit_words(*what)),
+        Refusal::Open { session } => of_name(alloc, b"transaction open in ", session),
+        Refusal::NoTransaction => of_words(alloc, b"no transaction"),
+        Refusal::Transactions => of_words(alloc, b"limit transactions 16"),
+        Refusal::ManyChanges => of_words(alloc, b"limit changes 20000"),
+        Refusal::Conflict { row, table, commit } => conflict(alloc, *row, table, *commit),
+        Refusal::BaseLimit { what } => of_limit(alloc, base_limit_words(*what)),
+        Refusal::BrokenKey { table, broken } => broken_key(alloc, table, broken),
+        Refusal::DiscoveryRows => of_words(alloc, b"limit discovery rows 8192"),
+        Refusal::KeySets { what, edge } => key_sets(alloc, *what, *edge),
     }
 }
 
-// The line of two rows that break a certain key.
-fn certain_key<'a>(
+fn of_words(alloc: Global, words: &[u8]) -> Result<Vec<u8>, Memory>
+    ensures { IfOk result (λ v. v.items ≡ line (codes "refused: " ++ words.now)) }
+{
+    refused_for(alloc, &[Words(words)])
+}
+
+fn of_limit(alloc: Global, limit: &[u8]) -> Result<Vec<u8>, Memory>
+    ensures { IfOk result (λ v. v.items ≡ line (codes "refused: " ++ codes "limit " ++ limit.now)) }
+{
+    refused_for(alloc, &[Words(b"limit "), Words(limit)])
+}
+
+fn of_number(alloc: Global, words: &[u8], n: u64) -> Result<Vec<u8>, Memory>
+    ensures { IfOk result (λ v. v.items ≡ line (codes "refused: " ++ words.now ++ decimal n)) }
+{
+    refused_for(alloc, &[Words(words), Number(n)])
+}
+
+fn of_name<'a>(alloc: Global, words: &'a [u8], name: &'a Name) -> Result<Vec<u8>, Memory>
+    ensures { IfOk result (λ v. v.items ≡ line (codes "refused: " ++ words.now ++ name.now)) }
+{
+    refused_for(alloc, &[Words(words), Named(name)])
+}
+
+fn around_name<'a>(
     alloc: Global,
-    key: u32,
-    table: &'a Name,
-    low: u64,
-    high: u64,
-    values: &'a Row,
+    before: &'a [u8],
+    name: &'a Name,
+    behind: &'a [u8],
 ) -> Result<Vec<u8>, Memory>
-    ensures { IfOk result (λ v. v.items ≡ line (codes "refused: " ++ certain_key_text key table.now low high values.now)) }
+    ensures { IfOk result (λ v. v.items ≡ line (codes "refused: " ++ before.now ++ name.now ++ behind.now)) }
+{
+    refused_for(alloc, &[Words(before), Named(name), Words(behind)])
+}
+
+fn no_column<'a>(alloc: Global, column: &'a Name, table: &'a Name) -> Result<Vec<u8>, Memory>
+    ensures { IfOk result (λ v. v.items ≡ line (codes "refused: " ++ refusal_text (NoColumn column.now table.now))) }
 {
     refused_for(
         alloc,
         &[
-            Words(b"certain key "),
-            Number(u64::from(key)),
-            Words(b" of "),
+            Words(b"no column "),
+            Named(column),
+            Words(b" in "),
             Named(table),
-            Words(b": rows "),
-            Number(low),
-            Words(b" and "),
-            Number(high),
-            Words(b" agree in the completion "),
-            Values(values.as_slice()),
         ],
     )
 }
 
-// The line of two rows that break a possible key.
-fn possible_key<'a>(
-    alloc: Global,
-    key: u32,
-    table: &'a Name,
-    low: u64,
-    high: u64,
-    values: &'a Row,
-) -> Result<Vec<u8>, Memory>
-    ensures { IfOk result (λ v. v.items ≡ line (codes "refused: " ++ possible_key_text key table.now low high values.now)) }
+fn value_count(alloc: Global, values: u64, columns: u64) -> Result<Vec<u8>, Memory>
+    ensures { IfOk result (λ v. v.items ≡ line (codes "refused: " ++ refusal_text (ValueCount values columns))) }
 {
     refused_for(
         alloc,
         &[
-            Words(b"possible key "),
-            Number(u64::from(key)),
+            Number(values),
+            Words(b" values for "),
+            Number(columns),
+            Words(b" columns"),
+        ],
+    )
+}
+
+fn long_text(alloc: Global, column: &Name, bytes: u64, most: u64) -> Result<Vec<u8>, Memory>
+    ensures { IfOk result (λ v. v.items ≡ line (codes "refused: " ++ refusal_text (LongText column.now bytes most))) }
+{
+    refused_for(
+        alloc,
+        &[
+            Words(b"text of "),
+            Number(bytes),
+            Words(b" bytes for column "),
+            Named(column),
+            Words(b", at most "),
+            Number(most),
+        ],
+    )
+}
+
+fn long_row(alloc: Global, bytes: u64) -> Result<Vec<u8>, Memory>
+    ensures { IfOk result (λ v. v.items ≡ line (codes "refused: " ++ refusal_text (LongRow bytes))) }
+{
+    refused_for(
+        alloc,
+        &[
+            Words(b"row of "),
+            Number(bytes),
+            Words(b" bytes, at most 4000"),
+        ],
+    )
+}
+
+fn conflict(alloc: Global, row: u64, table: &Name, commit: u64) -> Result<Vec<u8>, Memory>
+    ensures { IfOk result (λ v. v.items ≡ line (codes "refused: " ++ refusal_text (Conflict row table.now commit))) }
+{
+    refused_for(
+        alloc,
+        &[
+            Words(b"conflict on row "),
+            Number(row),
+            Words(b" of "),
+            Named(table),
+            Words(b" with commit "),
+            Number(commit),
+        ],
+    )
+}
+
+fn broken_key<'a>(alloc: Global, table: &'a Name, broken: &'a Break) -> Result<Vec<u8>, Memory>
+    ensures { IfOk result (λ v. v.items ≡ line (codes "refused: " ++ broken_text table.now broken.now)) }
+{
+    refused_for(
+        alloc,
+        &[
+            Words(broken_words(broken.sort)),
+            Number(u64::from(broken.key)),
             Words(b" of "),
             Named(table),
             Words(b": rows "),
-            Number(low),
+            Number(broken.low),
             Words(b" and "),
-            Number(high),
-            Words(b" agree on "),
-            Values(values.as_slice()),
+            Number(broken.high),
+            Words(agree_words(broken.sort)),
+            Values(broken.values.as_slice()),
+        ],
+    )
+}
+
+fn key_sets(alloc: Global, what: SetsName, edge: u32) -> Result<Vec<u8>, Memory>
+    ensures { IfOk result (λ v. v.items ≡ line (codes "refused: " ++ refusal_text (KeySets what edge))) }
+{
+    refused_for(
+        alloc,
+        &[
+            Words(b"limit "),
+            Words(sets_limit_words(what)),
+            Words(b" at edge "),
+            Number(u64::from(edge)),
         ],
     )
 }
@@ -200,6 +194,24 @@ fn refused_for(alloc: Global, reason: &[Part<'_>]) -> Result<Vec<u8>, Memory>
     let mut out = Vec::from_slice(alloc, b"refused: ")?;
     write_line(&mut out, reason)?;
     Ok(out)
+}
+
+fn broken_words(sort: Sort) -> &'static [u8]
+    ensures { result.now ≡ broken_words sort }
+{
+    match sort {
+        Sort::Certain => b"certain key ",
+        Sort::Possible => b"possible key ",
+    }
+}
+
+fn agree_words(sort: Sort) -> &'static [u8]
+    ensures { result.now ≡ agree_words sort }
+{
+    match sort {
+        Sort::Certain => b" agree in the completion ",
+        Sort::Possible => b" agree on ",
+    }
 }
 
 fn limit_words(what: LimitName) -> &'static [u8]

@@ -1,10 +1,10 @@
 use Rattle.std.proofs.Common.{refl}
 use Rattle.std.specs.Fmt.{digits}
-use Rattle.pk_report.specs.Text.{certain_key_text, possible_key_text, text}
+use Rattle.pk_report.specs.Text.{broken_text, text}
 use Rattle.pk_report.proofs.laws.refusals_are_spelled.Goals as goal
 
 pub returns : goal.returns
-unfolding digits certain_key_text possible_key_text text
+unfolding digits broken_text text
 returns c = record {
   bad_character_refused = refl;
   unclosed_text_refused = refl;

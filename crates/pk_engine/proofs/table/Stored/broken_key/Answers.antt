@@ -4,12 +4,13 @@ use Rattle.std.specs.List.{All}
 use Rattle.std.specs.List.Sorted.{IsStrictlySortedBy}
 use Rattle.std.specs.Ordering.{nat_cmp}
 use Rattle.pk_values.specs.declared.placed.Placed.{Placed}
+use Rattle.pk_values.specs.declared.refusal.Refusal.TheVariants.{BrokenKey}
 use Rattle.pk_schema.specs.Admits.{Admits}
 use Rattle.pk_exec.specs.Rows.{ids_of}
 use Rattle.pk_guard.specs.Breaks.{first_break}
 use Rattle.pk_guard.specs.Changed.{changed_rows}
 use Rattle.pk_engine.specs.Base.{Table}
-use Rattle.pk_engine.specs.Keys.{KeepsKeys, key_refusal}
+use Rattle.pk_engine.specs.Keys.{KeepsKeys}
 use Rattle.pk_engine.proofs.CommitLemmas.{counted}
 use Rattle.pk_engine.proofs.KeyLemmas.{broken_by}
 use Rattle.pk_engine.proofs.PutLemmas.{rise_sorted, put_ascend, put_admitted}
@@ -42,6 +43,6 @@ returns c =
     let t = c.args.self.now in
     let ch = c.args.changes.now in
     if_ok c.refusal_of.result c.refusal_of.ensures (λ r is.
-    is ∙ ap (λ (u : Table). option_map (key_refusal u.name) c.in_ok-broken.broken) c.self.view_is
+    is ∙ ap (λ (u : Table). option_map (BrokenKey u.name) c.in_ok-broken.broken) c.self.view_is
     ∙ broken_by t ch c.in_ok-broken.broken c.requires.valid c.requires.of
     (subst (λ (u : Table). c.in_ok-broken.broken ≡ first_break u.shape (changed_rows ch u.rows)) c.self.view_is (rw c.as_slice-rows.ensures.value at c.in_ok-broken.ensures)))
