@@ -1,158 +1,298 @@
-//! Tokens and pieces.
+//! What scripts are cut into: pieces, the line on which each begins, and its tokens or its fault.
+//!
+//! A case is a script, `|`, and what is told of it; `~` parts two cases. A line is told of each piece: the
+//! piece's own line and `:`, and then behind a blank each of its tokens. A word is `w` and its bytes, a number
+//! `n` and its digits, a text `t` and its bytes, and a symbol its name. A fault is `bad on` or `unclosed on`
+//! and its line.
 
+use crate::cases::{assert_told, cut};
 use pk_lex::{Body, Piece, Symbol, Token, lex};
+use pk_values::Memory;
 use std::alloc::Global;
+use std::io::Write;
+use std::process::Abort;
 use std::test::Fail;
 
-// A type that halves of parallel work may share and hand over.
-fn crosses<T: Send + Sync>(_value: &T) {}
+// ---- what is told
 
-// The pieces of a script as one text: a line each, with the line number, a colon, and what it holds.
-fn shown(alloc: Global, script: &[u8]) -> Result<Vec<u8>, Fail> {
+fn told(alloc: Global, script: &[u8]) -> Result<Vec<u8>, Memory> {
+    let pieces = lex(alloc, script)?;
+    pieces_told(alloc, pieces.as_slice())
+}
+
+fn pieces_told(alloc: Global, pieces: &[Piece]) -> Result<Vec<u8>, Memory> {
     let mut text = Vec::new(alloc);
-    for piece in &lex(alloc, script)? {
-        let line = piece.line;
-        text.extend_from_slice(format!(in alloc; "{line}:")?.as_bytes())?;
-        match &piece.body {
-            Body::Tokens(tokens) => {
-                for token in tokens.as_slice() {
-                    text.push(b' ')?;
-                    match token {
-                        Token::Word(name) => {
-                            text.push(b'w')?;
-                            text.extend_from_slice(name.as_slice())?;
-                        }
-                        Token::Number(digits) => {
-                            text.push(b'n')?;
-                            text.extend_from_slice(digits.as_slice())?;
-                        }
-                        Token::Text(bytes) => {
-                            text.push(b't')?;
-                            text.extend_from_slice(bytes.as_slice())?;
-                        }
-                        Token::Symbol(symbol) => {
-                            text.extend_from_slice(format!(in alloc; "{symbol:?}")?.as_bytes())?;
-                        }
-                    }
-                }
-            }
-            Body::BadCharacter { line } => {
-                text.extend_from_slice(format!(in alloc; " bad on {line}")?.as_bytes())?;
-            }
-            Body::UnclosedText { line } => {
-                text.extend_from_slice(format!(in alloc; " unclosed on {line}")?.as_bytes())?;
-            }
-        }
-        text.push(b'\n')?;
+    for piece in pieces {
+        tell_piece(&mut text, piece)?;
     }
     Ok(text)
 }
 
+fn tell_piece(text: &mut Vec<u8>, piece: &Piece) -> Result<(), Memory> {
+    tell_number(text, piece.line)?;
+    tell(text, b":")?;
+    tell_body(text, &piece.body)?;
+    tell(text, b"\n")
+}
+
+fn tell_body(text: &mut Vec<u8>, body: &Body) -> Result<(), Memory> {
+    match body {
+        Body::Tokens(tokens) => tell_tokens(text, tokens.as_slice()),
+        Body::BadCharacter { line } => tell_fault(text, b" bad on ", *line),
+        Body::UnclosedText { line } => tell_fault(text, b" unclosed on ", *line),
+    }
+}
+
+fn tell_fault(text: &mut Vec<u8>, fault: &[u8], line: u64) -> Result<(), Memory> {
+    tell(text, fault)?;
+    tell_number(text, line)
+}
+
+fn tell_tokens(text: &mut Vec<u8>, tokens: &[Token]) -> Result<(), Memory> {
+    for token in tokens {
+        tell_token(text, token)?;
+    }
+    Ok(())
+}
+
+fn tell_token(text: &mut Vec<u8>, token: &Token) -> Result<(), Memory> {
+    match token {
+        Token::Word(name) => tell_marked(text, b" w", name.as_slice()),
+        Token::Number(digits) => tell_marked(text, b" n", digits.as_slice()),
+        Token::Text(bytes) => tell_marked(text, b" t", bytes.as_slice()),
+        Token::Symbol(symbol) => tell_symbol(text, *symbol),
+    }
+}
+
+fn tell_marked(text: &mut Vec<u8>, mark: &[u8], bytes: &[u8]) -> Result<(), Memory> {
+    tell(text, mark)?;
+    tell(text, bytes)
+}
+
+fn tell_symbol(text: &mut Vec<u8>, symbol: Symbol) -> Result<(), Memory> {
+    write!(text, " {symbol:?}").map_err(|_| Memory)
+}
+
+fn tell_number(text: &mut Vec<u8>, n: u64) -> Result<(), Memory> {
+    write!(text, "{n}").map_err(|_| Memory)
+}
+
+fn tell(text: &mut Vec<u8>, bytes: &[u8]) -> Result<(), Memory> {
+    text.extend_from_slice(bytes)?;
+    Ok(())
+}
+
+// ---- scripts
+
+fn try_cases(rt: &impl Abort, alloc: Global, cases: &[u8]) -> Result<(), Memory> {
+    for case in cases.split(|byte| *byte == b'~') {
+        let (script, want) = script_and_want(case);
+        let text = told(alloc, script)?;
+        assert_told(rt, case, text.as_slice(), want);
+    }
+    Ok(())
+}
+
+// Unlike `cut`, this leaves the blanks, which a script may begin and end with.
+fn script_and_want(case: &[u8]) -> (&[u8], &[u8]) {
+    match case.iter().position(|byte| *byte == b'|') {
+        Some(i) => (&case[..i], &case[i + 1..]),
+        None => (case, b"no case"),
+    }
+}
+
+const SCRIPTS: &[u8] = b"\
+    |\
+    ~ \t\r\n|\
+    ~a;\n$;|1: wa\n2: bad on 2\n\
+    ~a|1: wa\n\
+    ~;; ;\n;b|2: wb\n\
+    ~Select _X9 aB|1: wselect w_x9 wab\n\
+    ~<= <> != >= < > =|1: AtMost UnequalAngle UnequalBang AtLeast Less Greater Equal\n\
+    ~<=<><<=>|1: AtMost UnequalAngle Less AtMost Greater\n\
+    ~(),*-|1: LeftParen RightParen Comma Star Minus\n\
+    ~a - - b|1: wa Minus Minus wb\n\
+    ~a ! b|1: bad on 1\n\
+    ~a !|1: bad on 1\n\
+    ~!==|1: UnequalBang Equal\n\
+    ~1AND|1: n1 wand\n\
+    ~a1 007|1: wa1 n007\n\
+    ~a 1 'b' (; $|1: wa n1 tb LeftParen\n1: bad on 1\n\
+    ~-5|1: Minus n5\n\
+    ~123456789012345678901234567890123456789012345678901234567890\
+    |1: n123456789012345678901234567890123456789012345678901234567890\n\
+    ~1234567890123456 12345678901234567|1: n1234567890123456 n12345678901234567\n\
+    ~a\r\r;b|1: wa\n1: wb\n\
+    ~\n\n a \n\n b;\r\n c|3: wa wb\n6: wc\n\
+    ~\na\n$\n$\nb;c|2: bad on 3\n5: wc\n\
+    ~$ '|1: bad on 1\n\
+    ~\xc3\xa4;b|1: bad on 1\n1: wb\n";
+
 #[test]
 fn scripts_are_cut(rt: HostRuntime) -> Result<(), Fail> {
-    let alloc = rt.alloc();
-    let cases: [(&[u8], &[u8]); 23] = [
-        (b"", b""),
-        (b" \t\r\n", b""),
-        (b"a;\n$;", b"1: wa\n2: bad on 2\n"),
-        (b"a", b"1: wa\n"),
-        (b";; ;\n;b", b"2: wb\n"),
-        (b"Select _X9 aB", b"1: wselect w_x9 wab\n"),
-        (
-            b"<= <> != >= < > =",
-            b"1: AtMost UnequalAngle UnequalBang AtLeast Less Greater Equal\n",
-        ),
-        (b"<=<><<=>", b"1: AtMost UnequalAngle Less AtMost Greater\n"),
-        (b"(),*-", b"1: LeftParen RightParen Comma Star Minus\n"),
-        (b"a - - b", b"1: wa Minus Minus wb\n"),
-        (b"a ! b", b"1: bad on 1\n"),
-        (b"a !", b"1: bad on 1\n"),
-        (b"!==", b"1: UnequalBang Equal\n"),
-        (b"1AND", b"1: n1 wand\n"),
-        (b"a1 007", b"1: wa1 n007\n"),
-        (b"-5", b"1: Minus n5\n"),
-        (
-            b"123456789012345678901234567890123456789012345678901234567890",
-            b"1: n123456789012345678901234567890123456789012345678901234567890\n",
-        ),
-        (
-            b"1234567890123456 12345678901234567",
-            b"1: n1234567890123456 n12345678901234567\n",
-        ),
-        (b"a\r\r;b", b"1: wa\n1: wb\n"),
-        (b"\n\n a \n\n b;\r\n c", b"3: wa wb\n6: wc\n"),
-        (b"\na\n$\n$\nb;c", b"2: bad on 3\n5: wc\n"),
-        (b"$ '", b"1: bad on 1\n"),
-        (b"\xc3\xa4;b", b"1: bad on 1\n1: wb\n"),
-    ];
-    for (script, want) in cases {
-        let text = shown(alloc, script)?;
-        assert_eq!(rt; text.as_slice(), want, "at {script:?}");
-    }
-    Ok(())
+    Ok(try_cases(&rt, rt.alloc(), SCRIPTS)?)
 }
+
+const CLOSED_TEXTS: &[u8] = b"\
+    ''|1: t\n\
+    ~'it''s'|1: tit's\n\
+    ~''''|1: t'\n\
+    ~'''a'''|1: t'a'\n\
+    ~'a' 'b'|1: ta tb\n\
+    ~'a''b'|1: ta'b\n\
+    ~1'a'b|1: n1 ta wb\n\
+    ~'A;--b' c|1: tA;--b wc\n\
+    ~'\0'|1: t\0\n\
+    ~'a\n\nb' c;\nd|1: ta\n\nb wc\n4: wd\n\
+    ~\n'\n\n';\n'\n';$|2: t\n\n\n5: t\n\n6: bad on 6\n";
 
 #[test]
-fn texts_and_comments_are_read(rt: HostRuntime) -> Result<(), Fail> {
+fn closed_texts_are_read(rt: HostRuntime) -> Result<(), Fail> {
+    Ok(try_cases(&rt, rt.alloc(), CLOSED_TEXTS)?)
+}
+
+// No quote closes the text, which reaches to the script's end.
+const UNCLOSED_TEXTS: &[u8] = b"\
+    '|1: unclosed on 1\n\
+    ~'''|1: unclosed on 1\n\
+    ~'a''|1: unclosed on 1\n\
+    ~a;\n'b|1: wa\n2: unclosed on 2\n\
+    ~\na\n'b;c\n;d|2: unclosed on 3\n\
+    ~'a';'b';'|1: ta\n1: tb\n1: unclosed on 1\n\
+    ~'\xff|1: unclosed on 1\n\
+    ~INSERT INTO t VALUES ('abc|1: unclosed on 1\n";
+
+#[test]
+fn unclosed_texts_are_faults(rt: HostRuntime) -> Result<(), Fail> {
+    Ok(try_cases(&rt, rt.alloc(), UNCLOSED_TEXTS)?)
+}
+
+// A closed text that isn't UTF-8 is a bad character, and reading goes on behind it.
+const TEXTS_OF_BYTES: &[u8] = b"\
+    '\xff' a;b|1: bad on 1\n1: wb\n\
+    ~a\n'b\n\xff\n';\nc 'd'|1: bad on 2\n5: wc td\n\
+    ~'\xff' '\xc3\xa4';'\xc3\xa4'|1: bad on 1\n1: t\xc3\xa4\n\
+    ~'\xc3''\xa4'|1: bad on 1\n\
+    ~'\xed\xa0\x80'|1: bad on 1\n\
+    ~'\xc0\x80'|1: bad on 1\n\
+    ~'\xf4\x90\x80\x80'|1: bad on 1\n\
+    ~'\xf4\x8f\xbf\xbf'|1: t\xf4\x8f\xbf\xbf\n\
+    ~'\xff' '|1: bad on 1\n";
+
+#[test]
+fn texts_are_utf8(rt: HostRuntime) -> Result<(), Fail> {
+    Ok(try_cases(&rt, rt.alloc(), TEXTS_OF_BYTES)?)
+}
+
+// A comment ends before the next line feed.
+const COMMENTS: &[u8] = b"\
+    --|\
+    ~--a;b'|\
+    ~--\n|\
+    ~--\na|2: wa\n\
+    ~a--b;c\nd;e|1: wa wd\n2: we\n\
+    ~a--\n;b|1: wa\n2: wb\n\
+    ~a---b\n-c|1: wa Minus wc\n\
+    ~a - --b|1: wa Minus\n\
+    ~--\r$\nb|2: wb\n\
+    ~--\xff\n--$\nb|3: wb\n\
+    ~--'\n'a'|2: ta\n\
+    ~'a--b\n' --c\n;d|1: ta--b\n\n3: wd\n";
+
+#[test]
+fn comments_are_passed(rt: HostRuntime) -> Result<(), Fail> {
+    Ok(try_cases(&rt, rt.alloc(), COMMENTS)?)
+}
+
+// ---- each byte
+
+#[test]
+fn each_byte_is_what_the_rules_say(rt: HostRuntime) -> Result<(), Fail> {
     let alloc = rt.alloc();
-    let cases: [(&[u8], &[u8]); 40] = [
-        (b"''", b"1: t\n"),
-        (b"'it''s'", b"1: tit's\n"),
-        (b"''''", b"1: t'\n"),
-        (b"'''a'''", b"1: t'a'\n"),
-        (b"'a' 'b'", b"1: ta tb\n"),
-        (b"'a''b'", b"1: ta'b\n"),
-        (b"1'a'b", b"1: n1 ta wb\n"),
-        (b"'A;--b' c", b"1: tA;--b wc\n"),
-        (b"'\0'", b"1: t\0\n"),
-        (b"'a\n\nb' c;\nd", b"1: ta\n\nb wc\n4: wd\n"),
-        (b"\n'\n\n';\n'\n';$", b"2: t\n\n\n5: t\n\n6: bad on 6\n"),
-        // No quote closes the text, which reaches to the script's end.
-        (b"'", b"1: unclosed on 1\n"),
-        (b"'''", b"1: unclosed on 1\n"),
-        (b"'a''", b"1: unclosed on 1\n"),
-        (b"a;\n'b", b"1: wa\n2: unclosed on 2\n"),
-        (b"\na\n'b;c\n;d", b"2: unclosed on 3\n"),
-        (b"'a';'b';'", b"1: ta\n1: tb\n1: unclosed on 1\n"),
-        (b"'\xff", b"1: unclosed on 1\n"),
-        (b"INSERT INTO t VALUES ('abc", b"1: unclosed on 1\n"),
-        // A closed text that isn't UTF-8 is a bad character, and reading goes on behind it.
-        (b"'\xff' a;b", b"1: bad on 1\n1: wb\n"),
-        (b"a\n'b\n\xff\n';\nc 'd'", b"1: bad on 2\n5: wc td\n"),
-        (
-            b"'\xff' '\xc3\xa4';'\xc3\xa4'",
-            b"1: bad on 1\n1: t\xc3\xa4\n",
-        ),
-        (b"'\xc3''\xa4'", b"1: bad on 1\n"),
-        (b"'\xed\xa0\x80'", b"1: bad on 1\n"),
-        (b"'\xc0\x80'", b"1: bad on 1\n"),
-        (b"'\xf4\x90\x80\x80'", b"1: bad on 1\n"),
-        (b"'\xf4\x8f\xbf\xbf'", b"1: t\xf4\x8f\xbf\xbf\n"),
-        (b"'\xff' '", b"1: bad on 1\n"),
-        // A comment ends before the next line feed.
-        (b"--", b""),
-        (b"--a;b'", b""),
-        (b"--\n", b""),
-        (b"--\na", b"2: wa\n"),
-        (b"a--b;c\nd;e", b"1: wa wd\n2: we\n"),
-        (b"a--\n;b", b"1: wa\n2: wb\n"),
-        (b"a---b\n-c", b"1: wa Minus wc\n"),
-        (b"a - --b", b"1: wa Minus\n"),
-        (b"--\r$\nb", b"2: wb\n"),
-        (b"--\xff\n--$\nb", b"3: wb\n"),
-        (b"--'\n'a'", b"2: ta\n"),
-        (b"'a--b\n' --c\n;d", b"1: ta--b\n\n3: wd\n"),
-    ];
-    for (script, want) in cases {
-        let text = shown(alloc, script)?;
-        assert_eq!(rt; text.as_slice(), want, "at {script:?}");
+    for byte in 0..=255u8 {
+        try_byte(&rt, alloc, &[byte], b"", false)?;
+        try_byte(&rt, alloc, &[b'a', byte], b" wa", is_word_byte(byte))?;
+        try_byte(&rt, alloc, &[b'1', byte], b" n1", byte.is_ascii_digit())?;
     }
     Ok(())
 }
 
-// The name of the symbol that is this byte alone.
-fn symbol_named(byte: u8) -> Option<&'static [u8]> {
-    let name: &[u8] = match byte {
+// A script of the token that is told so, if there is one, and of a byte, which may join it.
+fn try_byte(
+    rt: &impl Abort,
+    alloc: Global,
+    script: &[u8],
+    token: &[u8],
+    joins: bool,
+) -> Result<(), Fail> {
+    let byte = script.last().ok_or("no byte")?;
+    let text = told(alloc, script)?;
+    let want = wanted(alloc, token, joins, *byte)?;
+    assert_told(rt, script, text.as_slice(), want.as_slice());
+    Ok(())
+}
+
+fn wanted(alloc: Global, token: &[u8], joins: bool, byte: u8) -> Result<Vec<u8>, Memory> {
+    let mut text = Vec::new(alloc);
+    tell_behind(&mut text, token, joins, byte)?;
+    Ok(text)
+}
+
+// By the rules: a byte of a word or a number joins the token or begins another, a blank or `;` is no
+// token of the piece, and a quote and what begins no token are faults.
+fn tell_behind(text: &mut Vec<u8>, token: &[u8], joins: bool, byte: u8) -> Result<(), Memory> {
+    if is_word_byte(byte) {
+        tell_line(
+            text,
+            token,
+            own_mark(joins, byte),
+            &[byte.to_ascii_lowercase()],
+        )
+    } else if b" \t\n\r;".contains(&byte) {
+        tell_line(text, token, b"", b"")
+    } else if byte == b'\'' {
+        tell(text, b"1: unclosed on 1\n")
+    } else {
+        tell_symbol_behind(text, token, symbol_named(byte))
+    }
+}
+
+fn tell_symbol_behind(text: &mut Vec<u8>, token: &[u8], name: &[u8]) -> Result<(), Memory> {
+    if name.is_empty() {
+        tell(text, b"1: bad on 1\n")
+    } else {
+        tell_line(text, token, b" ", name)
+    }
+}
+
+// The line of a piece of this token and what stands behind it, unless both are missing.
+fn tell_line(text: &mut Vec<u8>, token: &[u8], mark: &[u8], bytes: &[u8]) -> Result<(), Memory> {
+    if token.is_empty() && bytes.is_empty() {
+        return Ok(());
+    }
+    tell_marked(text, b"1:", token)?;
+    tell_marked(text, mark, bytes)?;
+    tell(text, b"\n")
+}
+
+fn is_word_byte(byte: u8) -> bool {
+    byte.is_ascii_alphanumeric() || byte == b'_'
+}
+
+// What begins the token of a byte that joins none before it.
+fn own_mark(joins: bool, byte: u8) -> &'static [u8] {
+    if joins {
+        b""
+    } else if byte.is_ascii_digit() {
+        b" n"
+    } else {
+        b" w"
+    }
+}
+
+// The name of the symbol that is this byte alone, and nothing where none is.
+fn symbol_named(byte: u8) -> &'static [u8] {
+    match byte {
         b'(' => b"LeftParen",
         b')' => b"RightParen",
         b',' => b"Comma",
@@ -161,124 +301,86 @@ fn symbol_named(byte: u8) -> Option<&'static [u8]> {
         b'<' => b"Less",
         b'>' => b"Greater",
         b'-' => b"Minus",
-        _ => return None,
-    };
-    Some(name)
+        _ => b"",
+    }
 }
 
-// What a script of a token, if there is one, and of this byte shows, by the rules: a byte that
-// `joins` goes on the token; a blank or `;` shows nothing; a quote and what begins no token are faults.
-fn shown_behind(alloc: Global, token: &[u8], joins: bool, byte: u8) -> Result<Vec<u8>, Fail> {
-    let mut text = Vec::from_slice(alloc, b"1:")?;
-    text.extend_from_slice(token)?;
-    match byte {
-        b' ' | b'\t' | b'\n' | b'\r' | b';' => {}
-        b'\'' => return Ok(Vec::from_slice(alloc, b"1: unclosed on 1\n")?),
-        b'A'..=b'Z' | b'a'..=b'z' | b'_' | b'0'..=b'9' => {
-            if !joins {
-                let kind: &[u8] = if byte.is_ascii_digit() { b" n" } else { b" w" };
-                text.extend_from_slice(kind)?;
-            }
-            text.push(byte.to_ascii_lowercase())?;
-        }
-        _ => match symbol_named(byte) {
-            Some(name) => {
-                text.push(b' ')?;
-                text.extend_from_slice(name)?;
-            }
-            None => return Ok(Vec::from_slice(alloc, b"1: bad on 1\n")?),
-        },
-    }
-    if text.len() == 2 {
-        return Ok(Vec::new(alloc));
-    }
-    text.push(b'\n')?;
-    Ok(text)
-}
+// ---- long tokens
 
-#[test]
-fn each_byte_is_what_the_rules_say(rt: HostRuntime) -> Result<(), Fail> {
-    let alloc = rt.alloc();
-    for byte in 0..=255u8 {
-        let digit = byte.is_ascii_digit();
-        let letter = byte.is_ascii_alphabetic() || byte == b'_';
-        let first = shown(alloc, &[byte])?;
-        let want = shown_behind(alloc, b"", false, byte)?;
-        assert_eq!(rt; first.as_slice(), want.as_slice(), "first: {byte}");
-        let in_word = shown(alloc, &[b'a', byte])?;
-        let want = shown_behind(alloc, b" wa", letter || digit, byte)?;
-        assert_eq!(rt; in_word.as_slice(), want.as_slice(), "in a word: {byte}");
-        let in_number = shown(alloc, &[b'1', byte])?;
-        let want = shown_behind(alloc, b" n1", digit, byte)?;
-        assert_eq!(rt;
-            in_number.as_slice(),
-            want.as_slice(),
-            "in a number: {byte}"
-        );
-    }
-    Ok(())
-}
+// A script is one byte so many times.
+const REPEATS: usize = 262_144;
 
-// How many bytes each token holds, 0 for a symbol.
-fn token_lengths(alloc: Global, pieces: &[Piece]) -> Result<Vec<usize>, Fail> {
-    let mut lengths = Vec::new(alloc);
-    for piece in pieces {
-        if let Body::Tokens(tokens) = &piece.body {
-            for token in tokens.as_slice() {
-                let length = match token {
-                    Token::Word(name) => name.as_slice().len(),
-                    Token::Number(digits) => digits.as_slice().len(),
-                    Token::Text(bytes) => bytes.as_slice().len(),
-                    Token::Symbol(_) => 0,
-                };
-                lengths.push(length)?;
-            }
-        }
-    }
-    Ok(lengths)
-}
+// The byte, and how many pieces there are, how many tokens in the first, and how many bytes in its first
+// token, where a symbol has none. A quote first and one last stand around 131,071 pairs.
+const LONG_TOKENS: &[u8] = b"\
+7 | 1 1 262144
+A | 1 1 262144
+' | 1 1 131071
+- | 0 0 0
+( | 1 262144 0";
 
 #[test]
 fn long_tokens_are_read_whole(rt: HostRuntime) -> Result<(), Fail> {
     let alloc = rt.alloc();
-    let long = 262_144;
-    // The first quote and the last stand around 131,071 pairs.
-    let cases: [(u8, usize, usize); 5] = [
-        (b'7', 1, long),
-        (b'A', 1, long),
-        (b'\'', 1, 131_071),
-        (b'-', 0, 0),
-        (b'(', long, 0),
-    ];
-    for (byte, tokens, first) in cases {
-        let script = vec![in alloc; byte; long]?;
-        let pieces = lex(alloc, &script)?;
-        let lengths = token_lengths(alloc, &pieces)?;
-        assert_eq!(rt; lengths.len(), tokens, "tokens of {byte}");
-        assert_eq!(rt;
-            lengths.first().copied().unwrap_or(0),
-            first,
-            "bytes of {byte}"
-        );
+    for case in LONG_TOKENS.split(|byte| *byte == b'\n') {
+        let (byte, want) = cut(case);
+        let text = lengths(alloc, byte)?;
+        assert_told(&rt, case, text.as_slice(), want);
     }
     Ok(())
 }
 
-#[test]
-fn all_may_be_shared_by_threads(rt: HostRuntime) -> Result<(), Fail> {
-    let pieces = lex(rt.alloc(), b"a 1 'b' (; $")?;
-    assert_eq!(rt; pieces.len(), 2);
-    crosses(&pieces);
-    for piece in &pieces {
-        crosses(piece);
-        crosses(&piece.body);
-        if let Body::Tokens(tokens) = &piece.body {
-            crosses(tokens);
-            for token in tokens.as_slice() {
-                crosses(token);
-            }
-        }
+fn lengths(alloc: Global, byte: &[u8]) -> Result<Vec<u8>, Fail> {
+    let byte = byte.first().ok_or("no byte")?;
+    let pieces = repeated(alloc, *byte)?;
+    Ok(lengths_told(alloc, pieces.as_slice())?)
+}
+
+fn repeated(alloc: Global, byte: u8) -> Result<Vec<Piece>, Memory> {
+    let script = vec![in alloc; byte; REPEATS]?;
+    lex(alloc, script.as_slice())
+}
+
+fn lengths_told(alloc: Global, pieces: &[Piece]) -> Result<Vec<u8>, Memory> {
+    let mut text = Vec::new(alloc);
+    tell_lengths(&mut text, pieces.len(), first_tokens(pieces))?;
+    Ok(text)
+}
+
+fn tell_lengths(text: &mut Vec<u8>, pieces: usize, tokens: &[Token]) -> Result<(), Memory> {
+    tell_number(text, pieces as u64)?;
+    tell(text, b" ")?;
+    tell_number(text, tokens.len() as u64)?;
+    tell(text, b" ")?;
+    tell_number(text, first_width(tokens) as u64)
+}
+
+fn first_tokens(pieces: &[Piece]) -> &[Token] {
+    match pieces.first() {
+        Some(piece) => tokens_of(&piece.body),
+        None => &[],
     }
-    crosses(&Symbol::Semicolon);
-    Ok(())
+}
+
+fn tokens_of(body: &Body) -> &[Token] {
+    match body {
+        Body::Tokens(tokens) => tokens.as_slice(),
+        _ => &[],
+    }
+}
+
+fn first_width(tokens: &[Token]) -> usize {
+    match tokens.first() {
+        Some(token) => token_width(token),
+        None => 0,
+    }
+}
+
+fn token_width(token: &Token) -> usize {
+    match token {
+        Token::Word(name) => name.as_slice().len(),
+        Token::Number(digits) => digits.as_slice().len(),
+        Token::Text(bytes) => bytes.as_slice().len(),
+        Token::Symbol(_) => 0,
+    }
 }

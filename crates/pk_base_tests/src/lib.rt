@@ -3,12 +3,18 @@
 #![tactic(auto)]
 
 #[cfg(test)]
+mod cases;
+#[cfg(test)]
 mod lex;
 #[cfg(test)]
 mod logic;
 #[cfg(test)]
 mod report;
 #[cfg(test)]
+mod sets;
+#[cfg(test)]
 mod similar;
+#[cfg(test)]
+mod threads;
 #[cfg(test)]
 mod values;

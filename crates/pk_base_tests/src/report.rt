@@ -1,30 +1,184 @@
-//! Replies by their bytes.
+//! Replies by their bytes: the texts of all replies stand one behind the other, each on lines of its own.
 
+use crate::cases::assert_told;
 use pk_report::{Example, Reply, reply_text};
 use pk_values::{
-    Break, Bytes, ColSet, Items, KeyDecl, Name, Refusal, Row, Rule, Sort, Value, Words,
+    Break, Bytes, ColSet, Items, KeyDecl, Memory, Name, Refusal, Row, Rule, Sort, Value, Words,
 };
 use std::alloc::Global;
-use std::process::Abort;
 use std::test::Fail;
 
-// A type that threads may share and hand over.
-fn crosses<T: Send + Sync>(_value: &T) {}
+const TOLD: &[u8] = b"\
+inserted 0
+inserted 1
+inserted 18446744073709551615
+count
+4
+rows 1
+begun
+least|none|most
+-9223372036854775808|NULL|'O''Hara'
+rows 1
+a
+rows 0
+created t
+CREATE TABLE t (a INTEGER);
+refused: certain key 1 of t: rows 1 and 2 agree in the completion (-9223372036854775808, NULL, 'O''Hara')
+implied by key 1 by strengthening, extension
+CERTAIN KEY (a, c)
+POSSIBLE KEY ()
+keys 2
+not possible (a, c): rows (-9223372036854775808, NULL, 'O''Hara') and ()
+examples 1
+certain none
+possible (a, c)
+";
+
+#[test]
+fn replies_are_told(rt: HostRuntime) -> Result<(), Fail> {
+    let mut told = Vec::new(rt.alloc());
+    tell_replies(&mut told)?;
+    // The message of a failure is what was told.
+    assert_told(&rt, told.as_slice(), told.as_slice(), TOLD);
+    Ok(())
+}
+
+// ---- what is told
+
+fn tell_replies(told: &mut Vec<u8>) -> Result<(), Fail> {
+    tell_numbers(told)?;
+    tell_selections(told)?;
+    tell_names_and_texts(told)?;
+    tell_keys(told)
+}
+
+fn tell_numbers(told: &mut Vec<u8>) -> Result<(), Fail> {
+    tell(told, Reply::Inserted { n: 0 })?;
+    tell(told, Reply::Inserted { n: 1 })?;
+    tell(told, Reply::Inserted { n: u64::MAX })?;
+    tell(told, Reply::Count { n: 4 })?;
+    Ok(tell(told, Reply::Begun)?)
+}
+
+fn tell_selections(told: &mut Vec<u8>) -> Result<(), Fail> {
+    let alloc = *told.allocator();
+    tell(told, one_row_selected(alloc)?)?;
+    Ok(tell(told, no_row_selected(alloc)?)?)
+}
+
+fn tell_names_and_texts(told: &mut Vec<u8>) -> Result<(), Fail> {
+    let alloc = *told.allocator();
+    tell(told, created(alloc)?)?;
+    tell(told, shown(alloc)?)?;
+    Ok(tell(told, refused(alloc)?)?)
+}
+
+fn tell_keys(told: &mut Vec<u8>) -> Result<(), Fail> {
+    let alloc = *told.allocator();
+    tell(told, implied(alloc)?)?;
+    tell(told, covered(alloc)?)?;
+    tell(told, examples(alloc)?)?;
+    Ok(tell(told, discovered(alloc)?)?)
+}
+
+// Replies are dropped here alone, where nothing else is done.
+fn tell(told: &mut Vec<u8>, reply: Reply) -> Result<(), Memory> {
+    add_text(told, &reply)
+}
+
+fn add_text(told: &mut Vec<u8>, reply: &Reply) -> Result<(), Memory> {
+    let text = reply_text(*told.allocator(), reply)?;
+    Ok(told.extend_from_slice(text.as_slice())?)
+}
+
+// ---- the replies
+
+fn one_row_selected(alloc: Global) -> Result<Reply, Fail> {
+    Ok(Reply::Selected {
+        header: names(alloc, b"least none most")?,
+        rows: mixed_rows(alloc)?,
+    })
+}
+
+fn no_row_selected(alloc: Global) -> Result<Reply, Fail> {
+    Ok(Reply::Selected {
+        header: names(alloc, b"a")?,
+        rows: Items::from_vec(Vec::new(alloc)),
+    })
+}
+
+fn created(alloc: Global) -> Result<Reply, Fail> {
+    let table = named(alloc, b"t")?;
+    Ok(Reply::Created { table })
+}
+
+fn shown(alloc: Global) -> Result<Reply, Memory> {
+    let text = Bytes::copy(alloc, b"CREATE TABLE t (a INTEGER);")?;
+    Ok(Reply::Shown { text })
+}
+
+fn refused(alloc: Global) -> Result<Reply, Fail> {
+    let table = named(alloc, b"t")?;
+    let broken = broken(alloc)?;
+    Ok(Reply::Refused(Refusal::BrokenKey { table, broken }))
+}
+
+fn implied(alloc: Global) -> Result<Reply, Memory> {
+    let rules = vec![in alloc;
+        Rule::Declared { key: 1 },
+        Rule::Strengthen,
+        Rule::Extend { to: a_and_c() },
+    ]?;
+    Ok(Reply::Implied {
+        key: 1,
+        rules: Items::from_vec(rules),
+    })
+}
+
+fn covered(alloc: Global) -> Result<Reply, Fail> {
+    Ok(Reply::Cover {
+        columns: names(alloc, b"a b c")?,
+        keys: keys(alloc)?,
+    })
+}
+
+fn examples(alloc: Global) -> Result<Reply, Fail> {
+    Ok(Reply::Examples {
+        columns: names(alloc, b"a b c")?,
+        cases: one_example(alloc)?,
+    })
+}
+
+fn discovered(alloc: Global) -> Result<Reply, Fail> {
+    Ok(Reply::Discovered {
+        columns: names(alloc, b"a b c")?,
+        certain: Items::from_vec(Vec::new(alloc)),
+        possible: only(alloc, a_and_c())?,
+    })
+}
+
+// ---- what stands in them
 
 fn named(alloc: Global, word: &[u8]) -> Result<Name, Fail> {
     match Name::read(alloc, word)? {
         Some(name) => Ok(name),
-        None => Err(Fail::new("no name")),
+        None => Err("no name".into()),
     }
 }
 
 // The names that stand in the text, with a blank between each two.
-fn header(alloc: Global, text: &[u8]) -> Result<Items<Name>, Fail> {
+fn names(alloc: Global, text: &[u8]) -> Result<Items<Name>, Fail> {
     let mut names = Vec::new(alloc);
+    read_names(&mut names, text)?;
+    Ok(Items::from_vec(names))
+}
+
+fn read_names(names: &mut Vec<Name>, text: &[u8]) -> Result<(), Fail> {
+    let alloc = *names.allocator();
     for word in text.split(|byte| *byte == b' ') {
         names.push(named(alloc, word)?)?;
     }
-    Ok(Items::from_vec(names))
+    Ok(())
 }
 
 // A row of a number, null and a text with a quote.
@@ -33,131 +187,50 @@ fn mixed(alloc: Global) -> Result<Row, Fail> {
     Ok(Row::make(vec![in alloc; Value::Integer(i64::MIN), Value::Null, Value::Text(name)]?))
 }
 
-fn assert_told(rt: &impl Abort, alloc: Global, reply: Reply, want: &[u8]) -> Result<(), Fail> {
-    crosses(&reply);
-    let text = reply_text(alloc, &reply)?;
-    assert_eq!(rt; text.as_slice(), want);
-    Ok(())
-}
-
-#[test]
-fn numbers_are_told(rt: HostRuntime) -> Result<(), Fail> {
-    let alloc = rt.alloc();
-    for (n, want) in [
-        (0, b"inserted 0\n".as_slice()),
-        (1, b"inserted 1\n"),
-        (u64::MAX, b"inserted 18446744073709551615\n"),
-    ] {
-        assert_told(&rt, alloc, Reply::Inserted { n }, want)?;
-    }
-    assert_told(&rt, alloc, Reply::Count { n: 4 }, b"count\n4\nrows 1\n")?;
-    assert_told(&rt, alloc, Reply::Begun, b"begun\n")
-}
-
-#[test]
-fn selections_are_told(rt: HostRuntime) -> Result<(), Fail> {
-    let alloc = rt.alloc();
-    let header_of_three = header(alloc, b"least none most")?;
-    let rows = Items::from_vec(vec![in alloc; Items::from_vec(mixed(alloc)?.into_values())]?);
-    let reply = Reply::Selected {
-        header: header_of_three,
-        rows,
-    };
-    assert_told(
-        &rt,
-        alloc,
-        reply,
-        b"least|none|most\n-9223372036854775808|NULL|'O''Hara'\nrows 1\n",
-    )?;
-    let header_of_one = header(alloc, b"a")?;
-    let reply = Reply::Selected {
-        header: header_of_one,
-        rows: Items::from_vec(Vec::new(alloc)),
-    };
-    assert_told(&rt, alloc, reply, b"a\nrows 0\n")
-}
-
-#[test]
-fn names_and_texts_are_told(rt: HostRuntime) -> Result<(), Fail> {
-    let alloc = rt.alloc();
-    let table = named(alloc, b"t")?;
-    assert_told(&rt, alloc, Reply::Created { table }, b"created t\n")?;
-    let text = Bytes::copy(alloc, b"CREATE TABLE t (a INTEGER);")?;
-    assert_told(
-        &rt,
-        alloc,
-        Reply::Shown { text },
-        b"CREATE TABLE t (a INTEGER);\n",
-    )?;
-    let table = named(alloc, b"t")?;
-    let values = mixed(alloc)?;
-    let broken = Break {
+fn broken(alloc: Global) -> Result<Break, Fail> {
+    Ok(Break {
         key: 1,
         sort: Sort::Certain,
         low: 1,
         high: 2,
-        values,
-    };
-    let refusal = Refusal::BrokenKey { table, broken };
-    assert_told(
-        &rt,
-        alloc,
-        Reply::Refused(refusal),
-        b"refused: certain key 1 of t: rows 1 and 2 agree in the completion (-9223372036854775808, NULL, 'O''Hara')\n",
-    )
+        values: mixed(alloc)?,
+    })
 }
 
-#[test]
-fn keys_are_told(rt: HostRuntime) -> Result<(), Fail> {
-    let alloc = rt.alloc();
-    let set = ColSet::empty().with(2).with(0);
-    let rules = Items::from_vec(vec![in alloc;
-        Rule::Declared { key: 1 },
-        Rule::Strengthen,
-        Rule::Extend { to: set },
-    ]?);
-    assert_told(
-        &rt,
-        alloc,
-        Reply::Implied { key: 1, rules },
-        b"implied by key 1 by strengthening, extension\n",
-    )?;
+fn mixed_rows(alloc: Global) -> Result<Items<Items<Value>>, Fail> {
+    let row = mixed(alloc)?;
+    Ok(only(alloc, Items::from_vec(row.into_values()))?)
+}
+
+fn a_and_c() -> ColSet {
+    ColSet::empty().with(2).with(0)
+}
+
+fn keys(alloc: Global) -> Result<Items<KeyDecl>, Memory> {
     let certain = KeyDecl {
         sort: Sort::Certain,
-        columns: set,
+        columns: a_and_c(),
     };
     let possible = KeyDecl {
         sort: Sort::Possible,
         columns: ColSet::empty(),
     };
-    let columns = header(alloc, b"a b c")?;
-    let keys = Items::from_vec(vec![in alloc; certain, possible]?);
-    assert_told(
-        &rt,
-        alloc,
-        Reply::Cover { columns, keys },
-        b"CERTAIN KEY (a, c)\nPOSSIBLE KEY ()\nkeys 2\n",
-    )?;
-    let columns = header(alloc, b"a b c")?;
-    let low = mixed(alloc)?;
-    let case = Example {
+    Ok(Items::from_vec(vec![in alloc; certain, possible]?))
+}
+
+fn one_example(alloc: Global) -> Result<Items<Example>, Fail> {
+    let example = Example {
         sort: Sort::Possible,
-        columns: set,
-        low,
+        columns: a_and_c(),
+        low: mixed(alloc)?,
         high: Row::make(Vec::new(alloc)),
     };
-    let cases = Items::from_vec(vec![in alloc; case]?);
-    assert_told(
-        &rt,
-        alloc,
-        Reply::Examples { columns, cases },
-        b"not possible (a, c): rows (-9223372036854775808, NULL, 'O''Hara') and ()\nexamples 1\n",
-    )?;
-    let columns = header(alloc, b"a b c")?;
-    let reply = Reply::Discovered {
-        columns,
-        certain: Items::from_vec(Vec::new(alloc)),
-        possible: Items::from_vec(vec![in alloc; set]?),
-    };
-    assert_told(&rt, alloc, reply, b"certain none\npossible (a, c)\n")
+    Ok(only(alloc, example)?)
+}
+
+// The list of this item alone.
+fn only<T: Drop>(alloc: Global, item: T) -> Result<Items<T>, Memory> {
+    let mut items = Vec::new(alloc);
+    items.push(item)?;
+    Ok(Items::from_vec(items))
 }

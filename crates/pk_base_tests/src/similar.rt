@@ -1,136 +1,238 @@
-//! Pairs of rows.
+//! Pairs of rows, on columns of both.
+//!
+//! A case is a line: two rows, columns, and what is told of them, with bars between. An entry is a letter: a
+//! digit is that number, `<` and `>` are the least number and the greatest, `e`, `s` and `l` are the texts of 0,
+//! 254 and 255 letters, and `-` is null. A column is the letter so many places behind `0`, from `0` to `O`.
 
+ghost use Rattle.std.specs.Prelude.{IsTrue, length};
+ghost use Rattle.pk_values.specs.ColumnSet.{columns};
+ghost use Rattle.pk_similar.specs.Similarity.{are_below};
+
+use crate::cases::{assert_told, cut};
 use pk_similar::{apart, fill, lies_below, not_same, strong, weak};
-use pk_values::{ColSet, Kind, Row, Value, Words};
+use pk_values::{ColSet, Kind, MOST_COLUMNS, Memory, Row, Value, Words};
 use std::alloc::Global;
-use std::process::Abort;
 use std::test::Fail;
 
 const LONG: [u8; 255] = [b'a'; 255];
 
-// An entry as a table of cases spells it: a digit is that number, `<` and `>` are the least and the greatest,
-// `e`, `s` and `l` are the texts of 0, 254 and 255 letters, and `-` is null.
-fn entry(alloc: Global, letter: u8) -> Result<Value, Fail> {
+// ---- what is spelled
+
+fn row(alloc: Global, letters: &[u8]) -> Result<Row, Fail> {
+    let mut values = Vec::new(alloc);
+    read_values(&mut values, letters)?;
+    if values.len() > MOST_COLUMNS {
+        return Err("no row".into());
+    }
+    Ok(Row::make(values))
+}
+
+fn read_values(values: &mut Vec<Value>, letters: &[u8]) -> Result<(), Memory> {
+    let alloc = *values.allocator();
+    for letter in letters {
+        values.push(value(alloc, *letter)?)?;
+    }
+    Ok(())
+}
+
+fn value(alloc: Global, letter: u8) -> Result<Value, Memory> {
     match letter {
         b'0'..=b'9' => Ok(Value::Integer(i64::from(letter - b'0'))),
         b'<' => Ok(Value::Integer(i64::MIN)),
         b'>' => Ok(Value::Integer(i64::MAX)),
-        b'e' => Ok(Value::Text(Words::read(alloc, b"")?)),
-        b's' => Ok(Value::Text(Words::read(alloc, &LONG[..254])?)),
-        b'l' => Ok(Value::Text(Words::read(alloc, &LONG)?)),
+        b'e' => text(alloc, b""),
+        b's' => text(alloc, &LONG[..254]),
+        b'l' => text(alloc, &LONG),
         _ => Ok(Value::Null),
     }
 }
 
-fn row_of(rt: &impl Abort, alloc: Global, letters: &[u8]) -> Result<Row, Fail> {
-    let mut values = Vec::new(alloc);
-    for &letter in letters {
-        values.push(entry(alloc, letter)?)?;
+fn text(alloc: Global, bytes: &[u8]) -> Result<Value, Memory> {
+    match Words::read(alloc, bytes) {
+        Ok(words) => Ok(Value::Text(words)),
+        Err(_) => Err(Memory),
     }
-    assert!(rt; values.len() <= 32);
-    Ok(Row::make(values))
 }
 
-// The set of columns, each spelled by the letter so many places behind `0`.
-fn set_of(rt: &impl Abort, letters: &[u8]) -> ColSet {
+fn set(letters: &[u8]) -> Result<ColSet, Fail> {
     let mut set = ColSet::empty();
-    for &letter in letters {
-        let c = u32::from(letter).saturating_sub(48);
-        assert!(rt; c < 32);
+    for letter in letters {
+        let c = u32::from(letter.saturating_sub(b'0'));
+        if c >= 32 {
+            return Err("no column".into());
+        }
         set = set.with(c);
     }
-    set
+    Ok(set)
 }
 
-// All four answers on two rows.
-fn compared(rt: &impl Abort, a: &Row, b: &Row, x: ColSet) -> (bool, bool, ColSet, ColSet) {
-    assert!(rt; lies_below(x, a.width()) && lies_below(x, b.width()));
-    (
-        weak(a, b, x),
-        strong(a, b, x),
-        apart(a, b, x),
-        not_same(a, b, x),
-    )
-}
+// ---- similar rows
+
+// What is told: `w` where the rows are weakly similar, `s` where they are strongly, `/` and the columns in
+// which they are apart, and `/` and those in which they aren't the same.
+const PAIRS: &[u8] = b"\
+ | | | ws//
+1 | 2 | | ws//
+1 | 1 | 0 | ws//
+1 | 2 | 0 | /0/0
+1 | - | 0 | w//0
+- | - | 0 | w//0
+1- | -2 | 01 | w//01
+12- | 32- | 012 | /0/02
+12- | 32- | 12 | w//2
+12- | 32- | 1 | ws//
+<> | <> | 01 | ws//
+<> | >< | 01 | /01/01
+el | el | 01 | ws//
+el | ls | 01 | /01/01
+00000000000000000000000000000000 | 00000000000000000000000000000000 \
+    | 0123456789:;<=>?@ABCDEFGHIJKLMNO | ws//
+00000000000000000000000000000000 | -------------------------------- \
+    | 0123456789:;<=>?@ABCDEFGHIJKLMNO | w//0123456789:;<=>?@ABCDEFGHIJKLMNO";
 
 #[test]
 fn rows_are_compared_on_columns(rt: HostRuntime) -> Result<(), Fail> {
     let alloc = rt.alloc();
-    let wide = b"00000000000000000000000000000000";
-    let nulls = b"--------------------------------";
-    let all = b"0123456789:;<=>?@ABCDEFGHIJKLMNO";
-    // Two rows, columns, whether they are weakly and strongly similar, where they are apart and where not the same.
-    let cases: [(&[u8], &[u8], &[u8], bool, bool, &[u8], &[u8]); 16] = [
-        (b"", b"", b"", true, true, b"", b""),
-        (b"1", b"2", b"", true, true, b"", b""),
-        (b"1", b"1", b"0", true, true, b"", b""),
-        (b"1", b"2", b"0", false, false, b"0", b"0"),
-        (b"1", b"-", b"0", true, false, b"", b"0"),
-        (b"-", b"-", b"0", true, false, b"", b"0"),
-        (b"1-", b"-2", b"01", true, false, b"", b"01"),
-        (b"12-", b"32-", b"012", false, false, b"0", b"02"),
-        (b"12-", b"32-", b"12", true, false, b"", b"2"),
-        (b"12-", b"32-", b"1", true, true, b"", b""),
-        (b"<>", b"<>", b"01", true, true, b"", b""),
-        (b"<>", b"><", b"01", false, false, b"01", b"01"),
-        (b"el", b"el", b"01", true, true, b"", b""),
-        (b"el", b"ls", b"01", false, false, b"01", b"01"),
-        (wide, wide, all, true, true, b"", b""),
-        (wide, nulls, all, true, false, b"", all),
-    ];
-    for (a, b, columns, is_weak, is_strong, apart_at, not_same_at) in cases {
-        let x = set_of(&rt, columns);
-        let want = (
-            is_weak,
-            is_strong,
-            set_of(&rt, apart_at),
-            set_of(&rt, not_same_at),
-        );
-        let a = row_of(&rt, alloc, a)?;
-        let b = row_of(&rt, alloc, b)?;
-        assert!(rt; compared(&rt, &a, &b, x) == want, "at {columns:?}");
-        assert!(rt; compared(&rt, &b, &a, x) == want, "at {columns:?}");
+    for case in PAIRS.split(|byte| *byte == b'\n') {
+        let (a, rest) = cut(case);
+        let (b, rest) = cut(rest);
+        let (columns, want) = cut(rest);
+        let told = compared(alloc, a, b, columns)?;
+        let swapped = compared(alloc, b, a, columns)?;
+        assert_told(&rt, case, told.as_slice(), want);
+        assert_told(&rt, case, swapped.as_slice(), want);
     }
     Ok(())
 }
 
-fn are_equal(rt: &impl Abort, a: &Row, b: &Row) -> bool {
-    if a.width() != b.width() {
-        return false;
-    }
-    for c in 0..a.width() {
-        assert!(rt; c < b.width());
-        if !a.value(c).equals(b.value(c)) {
-            return false;
-        }
-    }
-    true
+fn compared(alloc: Global, a: &[u8], b: &[u8], columns: &[u8]) -> Result<Vec<u8>, Fail> {
+    let x = set(columns)?;
+    let a = row(alloc, a)?;
+    let b = row(alloc, b)?;
+    told(alloc, &a, &b, x)
 }
+
+fn told(alloc: Global, a: &Row, b: &Row, x: ColSet) -> Result<Vec<u8>, Fail> {
+    if !lies_below(x, a.width()) || !lies_below(x, b.width()) {
+        return Err("no columns of both".into());
+    }
+    let mut text = Vec::new(alloc);
+    tell(&mut text, a, b, x)?;
+    Ok(text)
+}
+
+fn tell(text: &mut Vec<u8>, a: &Row, b: &Row, x: ColSet) -> Result<(), Memory>
+    requires a_wide { IsTrue (are_below (length a.now) (columns x)) }
+    requires b_wide { IsTrue (are_below (length b.now) (columns x)) }
+{
+    tell_where(text, weak(a, b, x), b"w")?;
+    tell_where(text, strong(a, b, x), b"s")?;
+    tell_columns(text, apart(a, b, x))?;
+    tell_columns(text, not_same(a, b, x))
+}
+
+fn tell_where(text: &mut Vec<u8>, is_so: bool, letter: &[u8]) -> Result<(), Memory> {
+    if is_so {
+        text.extend_from_slice(letter)?;
+    }
+    Ok(())
+}
+
+fn tell_columns(text: &mut Vec<u8>, set: ColSet) -> Result<(), Memory> {
+    text.push(b'/')?;
+    for c in 0..32u8 {
+        tell_where(text, set.has(u32::from(c)), &[b'0'.saturating_add(c)])?;
+    }
+    Ok(())
+}
+
+// ---- filled rows
+
+// The rows are of a number, a text and a number. What is told: the values of both on the columns.
+const FILLED: &[u8] = b"\
+1e2 | 3l4 | |
+1-- | --2 | 02 | 12
+1-- | --2 | 2 | 2
+1-- | --2 | 012 | 1e2
+--- | --- | 012 | 0e0
+7-8 | 7l8 | 01 | 7l
+-e5 | --6 | 01 | 0e
+<-1 | -s> | 01 | <s";
 
 #[test]
 fn similar_rows_are_filled(rt: HostRuntime) -> Result<(), Fail> {
     let alloc = rt.alloc();
-    let kinds = [Kind::Integer, Kind::Text, Kind::Integer];
-    // Two rows of a number, a text and a number, columns, and the values on them.
-    let cases: [(&[u8], &[u8], &[u8], &[u8]); 8] = [
-        (b"1e2", b"3l4", b"", b""),
-        (b"1--", b"--2", b"02", b"12"),
-        (b"1--", b"--2", b"2", b"2"),
-        (b"1--", b"--2", b"012", b"1e2"),
-        (b"---", b"---", b"012", b"0e0"),
-        (b"7-8", b"7l8", b"01", b"7l"),
-        (b"-e5", b"--6", b"01", b"0e"),
-        (b"<-1", b"-s>", b"01", b"<s"),
-    ];
-    for (a, b, columns, want) in cases {
-        let x = set_of(&rt, columns);
-        let a = row_of(&rt, alloc, a)?;
-        let b = row_of(&rt, alloc, b)?;
-        assert!(rt; lies_below(x, 3) && lies_below(x, a.width()) && lies_below(x, b.width()));
-        assert!(rt; weak(&a, &b, x), "at {columns:?}");
-        let filled = fill(alloc, &a, &b, &kinds, x)?;
-        let want = row_of(&rt, alloc, want)?;
-        assert!(rt; are_equal(&rt, &filled, &want), "at {columns:?}");
+    for case in FILLED.split(|byte| *byte == b'\n') {
+        let (a, rest) = cut(case);
+        let (b, rest) = cut(rest);
+        let (columns, want) = cut(rest);
+        let filled = filled(alloc, a, b, columns)?;
+        let told = spelled(alloc, filled.as_slice())?;
+        assert_told(&rt, case, told.as_slice(), want);
     }
     Ok(())
+}
+
+fn filled(alloc: Global, a: &[u8], b: &[u8], columns: &[u8]) -> Result<Row, Fail> {
+    let x = set(columns)?;
+    let a = row(alloc, a)?;
+    let b = row(alloc, b)?;
+    filled_on(alloc, &a, &b, x)
+}
+
+fn filled_on(alloc: Global, a: &Row, b: &Row, x: ColSet) -> Result<Row, Fail> {
+    let kinds = [Kind::Integer, Kind::Text, Kind::Integer];
+    if !lies_below(x, 3) || !lies_below(x, a.width()) || !lies_below(x, b.width()) {
+        return Err("no columns of both".into());
+    }
+    if !weak(a, b, x) {
+        return Err("rows that aren't similar".into());
+    }
+    Ok(fill(alloc, a, b, &kinds, x)?)
+}
+
+fn spelled(alloc: Global, values: &[Value]) -> Result<Vec<u8>, Memory> {
+    let mut letters = Vec::new(alloc);
+    for value in values {
+        letters.push(letter(value))?;
+    }
+    Ok(letters)
+}
+
+// The letter that spells the value, and `?` where none does.
+fn letter(value: &Value) -> u8 {
+    match value {
+        Value::Null => b'-',
+        Value::Integer(n) => number_letter(*n),
+        Value::Text(words) => text_letter(words.as_slice()),
+    }
+}
+
+fn number_letter(n: i64) -> u8 {
+    if n == i64::MIN {
+        b'<'
+    } else if n == i64::MAX {
+        b'>'
+    } else {
+        digit(n)
+    }
+}
+
+fn digit(n: i64) -> u8 {
+    match u8::try_from(n) {
+        Ok(n) if n < 10 => b'0' + n,
+        _ => b'?',
+    }
+}
+
+fn text_letter(bytes: &[u8]) -> u8 {
+    if bytes.is_empty() {
+        b'e'
+    } else if bytes == &LONG[..254] {
+        b's'
+    } else if bytes == LONG.as_slice() {
+        b'l'
+    } else {
+        b'?'
+    }
 }

@@ -1,297 +1,433 @@
-//! Values, rows, names and sets of columns.
+//! Names, words, values, rows and lists.
+//!
+//! The values of a row are a letter each: a digit is that number, `-` is null, and a text of `a`s alone is `b` where
+//! it has 2 bytes, `y` where it has 143, `z` where it has 144, and `x` where it has 255.
 
-ghost use Rattle.std.specs.Prelude.{◌≤◌, length};
-
-use pk_values::{
-    Break, Bytes, COLUMN_LIMIT, Changes, ColSet, Items, KeyDecl, Kind, MOST_COLUMNS, Memory, Name,
-    Placed, Refusal, Row, Rule, Sort, Value, Words, WordsErr,
-};
+use crate::cases::{assert_told, cut, letter, order_sign};
+use pk_values::{Bytes, Items, Kind, MOST_COLUMNS, Memory, Name, Row, Value, Words, WordsErr};
 use std::alloc::Global;
+use std::io::Write;
+use std::process::Abort;
 use std::test::Fail;
 
-// A type that halves of parallel work may share and hand over.
-fn crosses<T: Send + Sync>(_value: &T) {}
+// ---- cases
+
+// What a table of cases is about.
+#[derive(Clone, Copy)]
+enum Subject {
+    Name,
+    Words,
+    Row,
+}
+
+// Each case is what is spelled, a bar, and what is told of what it spells.
+fn assert_cases(
+    rt: &impl Abort,
+    alloc: Global,
+    subject: Subject,
+    cases: &[&[u8]],
+) -> Result<(), Fail> {
+    for case in cases {
+        let (spelled, want) = cut(case);
+        let told = told(alloc, subject, spelled)?;
+        assert_told(rt, case, told.trim_ascii(), want);
+    }
+    Ok(())
+}
+
+fn told(alloc: Global, subject: Subject, spelled: &[u8]) -> Result<Vec<u8>, Fail> {
+    let mut text = Vec::new(alloc);
+    tell(&mut text, subject, spelled)?;
+    Ok(text)
+}
+
+fn tell(text: &mut Vec<u8>, subject: Subject, spelled: &[u8]) -> Result<(), Fail> {
+    match subject {
+        Subject::Name => Ok(tell_named(text, spelled)?),
+        Subject::Words => Ok(tell_words(text, spelled)?),
+        Subject::Row => tell_spelled(text, spelled),
+    }
+}
+
+// ---- names
+
+// A word, and the name that it spells, once as it is read and once as it is copied; nothing where it is none.
+const NAMES: [&[u8]; 10] = [
+    b"Ab_1 | ab_1 ab_1",
+    b"_ | _ _",
+    b"Zz | zz zz",
+    b"a9 | a9 a9",
+    b"t | t t",
+    b"1a |",
+    b" |",
+    b"a-b |",
+    b"a b |",
+    b"\xc3\xa4 |",
+];
 
 #[test]
 fn names_are_read(rt: HostRuntime) -> Result<(), Fail> {
-    let alloc = rt.alloc();
-    let cases: [(&[u8], Option<&[u8]>); 9] = [
-        (b"Ab_1", Some(b"ab_1")),
-        (b"_", Some(b"_")),
-        (b"Zz", Some(b"zz")),
-        (b"a9", Some(b"a9")),
-        (b"1a", None),
-        (b"", None),
-        (b"a-b", None),
-        (b"a b", None),
-        (b"\xc3\xa4", None),
-    ];
-    for (word, want) in cases {
-        let name = Name::read(alloc, word)?;
-        assert_eq!(rt; name.is_some(), want.is_some(), "at {word:?}");
-        if let (Some(name), Some(want)) = (name, want) {
-            assert_eq!(rt; name.as_slice(), want);
-            let copy = name.copy()?;
-            assert_eq!(rt; copy.as_slice(), want);
-        }
+    assert_cases(&rt, rt.alloc(), Subject::Name, &NAMES)
+}
+
+fn tell_named(text: &mut Vec<u8>, word: &[u8]) -> Result<(), Memory> {
+    let name = Name::read(*text.allocator(), word)?;
+    tell_read(text, &name)
+}
+
+fn tell_read(text: &mut Vec<u8>, name: &Option<Name>) -> Result<(), Memory> {
+    match name {
+        Some(name) => tell_name(text, name),
+        None => Ok(()),
     }
+}
+
+fn tell_name(text: &mut Vec<u8>, name: &Name) -> Result<(), Memory> {
+    tell_word(text, name.as_slice())?;
+    let copy = name.copy()?;
+    tell_word(text, copy.as_slice())
+}
+
+fn tell_word(text: &mut Vec<u8>, word: &[u8]) -> Result<(), Memory> {
+    text.push(b' ')?;
+    text.extend_from_slice(word)?;
     Ok(())
 }
 
-#[test]
-fn rows_are_copied(rt: HostRuntime) -> Result<(), Fail> {
-    let alloc = rt.alloc();
-    let row = Row::make(vec![in alloc; Value::Integer(1), Value::Null]?);
-    let copy = row.copy()?;
-    assert_eq!(rt; copy.width(), 2);
-    assert!(rt; matches!(copy.value(0), Value::Integer(1)));
-    assert!(rt; matches!(copy.value(1), Value::Null));
-    assert!(rt; matches!(Value::Integer(1).copy()?, Value::Integer(1)));
-    Ok(())
-}
+// ---- words
 
-#[test]
-fn lists_are_kept(rt: HostRuntime) -> Result<(), Fail> {
-    let alloc = rt.alloc();
-    let items = Items::from_vec(vec![in alloc; 3u64, 1, 2]?);
-    assert_eq!(rt; items.as_slice(), [3, 1, 2].as_slice());
-    assert_eq!(rt; items.into_vec().as_slice(), [3, 1, 2].as_slice());
-    let bytes = Bytes::from_vec(b"ab".to_vec(alloc)?);
-    assert_eq!(rt; bytes.as_slice(), b"ab".as_slice());
-    assert_eq!(rt; bytes.into_vec().as_slice(), b"ab".as_slice());
-    assert_eq!(rt; Bytes::copy(alloc, b"ab")?.as_slice(), b"ab".as_slice());
-    Ok(())
-}
+// Bytes, and how many the words of them have that are the same once read and copied, or why they are no words.
+const WORDS: [&[u8]; 7] = [
+    b" | same 0",
+    b"ab | same 2",
+    b"\xc3\xa4\xf0\x9f\x98\x80 | same 6",
+    b"a\xff | cut 1",
+    b"\xff | cut 0",
+    b"ab\xc3 | cut 2",
+    b"\xed\xa0\x80 | cut 0",
+];
 
 #[test]
 fn words_are_read(rt: HostRuntime) -> Result<(), Fail> {
-    let alloc = rt.alloc();
-    let most = vec![in alloc; b'a'; 255]?;
-    let more = vec![in alloc; b'a'; 256]?;
-    let fits: [&[u8]; 4] = [b"", b"ab", b"\xc3\xa4\xf0\x9f\x98\x80", most.as_slice()];
-    for bytes in fits {
-        let words = Words::read(alloc, bytes)?;
-        assert_eq!(rt; words.as_slice(), bytes);
-        assert_eq!(rt; words.len() as usize, bytes.len());
-        let copy = words.copy()?;
-        assert_eq!(rt; copy.as_slice(), bytes);
-    }
-    let cut: [(&[u8], usize); 4] = [
-        (b"a\xff", 1),
-        (b"\xff", 0),
-        (b"ab\xc3", 2),
-        (b"\xed\xa0\x80", 0),
-    ];
-    for (bytes, front) in cut {
-        assert!(rt;
-            matches!(Words::read(alloc, bytes), Err(WordsErr::NotUtf8 { at }) if at == front),
-            "at {bytes:?}"
-        );
-    }
-    assert!(rt;
-        matches!(
-            Words::read(alloc, more.as_slice()),
-            Err(WordsErr::TooLong { len: 256 })
-        )
-    );
+    assert_cases(&rt, rt.alloc(), Subject::Words, &WORDS)
+}
+
+#[test]
+fn words_have_at_most_255_bytes(rt: HostRuntime) -> Result<(), Fail> {
+    let letters = [b'a'; 256];
+    let mut told = Vec::new(rt.alloc());
+    tell_words(&mut told, &letters[..255])?;
+    tell_words(&mut told, &letters)?;
+    assert_told(&rt, b"letters", told.as_slice(), b" same 255 long 256");
     Ok(())
 }
+
+fn tell_words(text: &mut Vec<u8>, bytes: &[u8]) -> Result<(), Memory> {
+    match Words::read(*text.allocator(), bytes) {
+        Ok(words) => tell_copied(text, &words, bytes),
+        Err(error) => tell_error(text, &error),
+    }
+}
+
+fn tell_copied(text: &mut Vec<u8>, words: &Words, bytes: &[u8]) -> Result<(), Memory> {
+    let copy = words.copy()?;
+    tell_same(text, words, &copy, bytes)
+}
+
+// Tells nothing where words have other bytes.
+fn tell_same(text: &mut Vec<u8>, words: &Words, copy: &Words, bytes: &[u8]) -> Result<(), Memory> {
+    if words.as_slice() != bytes || copy.as_slice() != bytes {
+        return Ok(());
+    }
+    tell_count(text, b" same ", words.len() as usize)
+}
+
+fn tell_error(text: &mut Vec<u8>, error: &WordsErr) -> Result<(), Memory> {
+    match error {
+        WordsErr::NotUtf8 { at } => tell_count(text, b" cut ", *at),
+        WordsErr::TooLong { len } => tell_count(text, b" long ", *len),
+        WordsErr::Memory => Err(Memory),
+    }
+}
+
+fn tell_count(text: &mut Vec<u8>, word: &[u8], count: usize) -> Result<(), Memory> {
+    text.extend_from_slice(word)?;
+    tell_number(text, count as u64)
+}
+
+fn tell_number(text: &mut Vec<u8>, n: u64) -> Result<(), Memory> {
+    write!(text, "{n}").map_err(|_| Memory)
+}
+
+// ---- values
+
+// Null, these numbers and these texts: each value comes before all that stand behind it.
+const NUMBERS: [i64; 5] = [i64::MIN, -1, 0, 1, i64::MAX];
+
+const TEXTS: [&[u8]; 5] = [b"", b"Z", b"a", b"a\0", b"\xc3\xa4"];
+
+// A line for each value: how it stands to every value, what kind it has, and how it stands to its copy.
+const VALUES_TOLD: &[u8] = b"
+=<<<<<<<<<< null =
+>=<<<<<<<<< number =
+>>=<<<<<<<< number =
+>>>=<<<<<<< number =
+>>>>=<<<<<< number =
+>>>>>=<<<<< number =
+>>>>>>=<<<< text =
+>>>>>>>=<<< text =
+>>>>>>>>=<< text =
+>>>>>>>>>=< text =
+>>>>>>>>>>= text =";
 
 #[test]
 fn values_are_ordered(rt: HostRuntime) -> Result<(), Fail> {
     let alloc = rt.alloc();
-    // Each value comes before all that stand behind it.
-    let ascending = [
-        Value::Null,
-        Value::Integer(i64::MIN),
-        Value::Integer(-1),
-        Value::Integer(0),
-        Value::Integer(i64::MAX),
-        Value::Text(Words::read(alloc, b"")?),
-        Value::Text(Words::read(alloc, b"Z")?),
-        Value::Text(Words::read(alloc, b"a")?),
-        Value::Text(Words::read(alloc, b"a\0")?),
-        Value::Text(Words::read(alloc, b"\xc3\xa4")?),
-    ];
-    for (i, a) in ascending.iter().enumerate() {
-        for (j, b) in ascending.iter().enumerate() {
-            assert_eq!(rt; a.compare(b), i.cmp(&j), "at {i} and {j}");
-            assert_eq!(rt; a.equals(b), i == j, "at {i} and {j}");
-        }
-        assert!(rt; a.copy()?.equals(a));
-        let kind = match i {
-            0 => None,
-            1..=4 => Some(Kind::Integer),
-            _ => Some(Kind::Text),
-        };
-        assert!(rt; a.kind() == kind, "at {i}");
+    let values = ascending_values(alloc)?;
+    let told = values_told(alloc, values.as_slice())?;
+    assert_told(&rt, told.as_slice(), told.as_slice(), VALUES_TOLD);
+    Ok(())
+}
+
+fn ascending_values(alloc: Global) -> Result<Vec<Value>, Memory> {
+    let mut values = Vec::new(alloc);
+    values.push(Value::Null)?;
+    add_numbers(&mut values)?;
+    add_texts(&mut values)?;
+    Ok(values)
+}
+
+fn add_numbers(values: &mut Vec<Value>) -> Result<(), Memory> {
+    for n in NUMBERS {
+        values.push(Value::Integer(n))?;
     }
     Ok(())
 }
 
-// A row of texts of so many bytes.
-fn texts(alloc: Global, lengths: &[usize]) -> Result<Row, Fail>
-    requires { length lengths.now ≤ 32 }
-{
-    let mut values = Vec::new(alloc);
-    for len in lengths.iter().take(32) {
-        let bytes = vec![in alloc; b'a'; *len]?;
-        values.push(Value::Text(Words::read(alloc, bytes.as_slice())?))?;
+fn add_texts(values: &mut Vec<Value>) -> Result<(), Memory> {
+    let alloc = *values.allocator();
+    for bytes in TEXTS {
+        values.push(text_value(alloc, bytes)?)?;
     }
+    Ok(())
+}
+
+fn text_value(alloc: Global, bytes: &[u8]) -> Result<Value, Memory> {
+    match Words::read(alloc, bytes) {
+        Ok(words) => Ok(Value::Text(words)),
+        Err(_) => Err(Memory),
+    }
+}
+
+fn values_told(alloc: Global, values: &[Value]) -> Result<Vec<u8>, Memory> {
+    let mut text = Vec::new(alloc);
+    for value in values {
+        tell_value(&mut text, value, values)?;
+    }
+    Ok(text)
+}
+
+fn tell_value(text: &mut Vec<u8>, value: &Value, values: &[Value]) -> Result<(), Memory> {
+    text.push(b'\n')?;
+    tell_signs(text, value, values)?;
+    text.extend_from_slice(kind_word(value.kind()))?;
+    tell_copy(text, value)
+}
+
+fn tell_signs(text: &mut Vec<u8>, value: &Value, others: &[Value]) -> Result<(), Memory> {
+    for other in others {
+        text.push(sign(value, other))?;
+    }
+    Ok(())
+}
+
+fn tell_copy(text: &mut Vec<u8>, value: &Value) -> Result<(), Memory> {
+    let copy = value.copy()?;
+    text.push(sign(value, &copy))?;
+    Ok(())
+}
+
+fn kind_word(kind: Option<Kind>) -> &'static [u8] {
+    match kind {
+        None => b" null ",
+        Some(Kind::Integer) => b" number ",
+        Some(Kind::Text) => b" text ",
+    }
+}
+
+// `?` where the values are told equal and yet not tied, or the other way round.
+fn sign(a: &Value, b: &Value) -> u8 {
+    let sign = order_sign(a.compare(b));
+    if a.equals(b) == (sign == b'=') {
+        sign
+    } else {
+        b'?'
+    }
+}
+
+// ---- rows
+
+// A row, and how many bytes it takes, and the width and the values of its copy.
+const ROWS: [&[u8]; 6] = [
+    b" | 0 0",
+    b"1- | 10 2 1-",
+    b"1-b | 14 3 1-b",
+    b"xxxxxxxxxxxxxxxy | 4000 16 xxxxxxxxxxxxxxxy",
+    b"xxxxxxxxxxxxxxxz | 4001 16 xxxxxxxxxxxxxxxz",
+    b"xxxxxxxxxxxxxxxxxxxxxxxxxxxxxxxx | 8224 32 xxxxxxxxxxxxxxxxxxxxxxxxxxxxxxxx",
+];
+
+#[test]
+fn rows_are_copied_and_measured(rt: HostRuntime) -> Result<(), Fail> {
+    assert_cases(&rt, rt.alloc(), Subject::Row, &ROWS)
+}
+
+fn tell_spelled(text: &mut Vec<u8>, letters: &[u8]) -> Result<(), Fail> {
+    let row = row(*text.allocator(), letters)?;
+    Ok(tell_measured(text, &row)?)
+}
+
+fn row(alloc: Global, letters: &[u8]) -> Result<Row, Fail> {
+    let mut values = Vec::new(alloc);
+    read_values(&mut values, letters)?;
     if values.len() > MOST_COLUMNS {
-        return Err(Fail::new("too many values"));
+        return Err("too many values".into());
     }
     Ok(Row::make(values))
 }
 
-#[test]
-fn rows_are_measured(rt: HostRuntime) -> Result<(), Fail> {
-    let alloc = rt.alloc();
-    let small = Row::make(vec![in alloc;
-        Value::Integer(1),
-        Value::Null,
-        Value::Text(Words::read(alloc, b"ab")?),
-    ]?);
-    assert_eq!(rt; small.record_len(), 14);
-    assert_eq!(rt; Row::make(Vec::new(alloc)).record_len(), 0);
-    let mut lengths = [255usize; 16];
-    lengths[15] = 143;
-    assert_eq!(rt; texts(alloc, &lengths)?.record_len(), 4000);
-    lengths[15] = 144;
-    assert_eq!(rt; texts(alloc, &lengths)?.record_len(), 4001);
-    assert_eq!(rt; texts(alloc, &[255; 32])?.record_len(), 8224);
+fn read_values(values: &mut Vec<Value>, letters: &[u8]) -> Result<(), Memory> {
+    let alloc = *values.allocator();
+    for letter in letters {
+        values.push(value(alloc, *letter)?)?;
+    }
     Ok(())
+}
+
+fn value(alloc: Global, letter: u8) -> Result<Value, Memory> {
+    match letter {
+        b'0'..=b'9' => Ok(Value::Integer(i64::from(letter - b'0'))),
+        b'-' => Ok(Value::Null),
+        _ => long_text(alloc, text_len(letter)),
+    }
+}
+
+fn long_text(alloc: Global, len: usize) -> Result<Value, Memory> {
+    let bytes = vec![in alloc; b'a'; len]?;
+    text_value(alloc, bytes.as_slice())
+}
+
+fn text_len(letter: u8) -> usize {
+    match letter {
+        b'b' => 2,
+        b'y' => 143,
+        b'z' => 144,
+        _ => 255,
+    }
+}
+
+fn tell_measured(text: &mut Vec<u8>, row: &Row) -> Result<(), Memory> {
+    tell_number(text, u64::from(row.record_len()))?;
+    let copy = row.copy()?;
+    tell_row(text, &copy)
+}
+
+fn tell_row(text: &mut Vec<u8>, row: &Row) -> Result<(), Memory> {
+    text.push(b' ')?;
+    tell_number(text, u64::from(row.width()))?;
+    text.push(b' ')?;
+    for c in 0..row.width() {
+        text.push(value_letter(row.value(c)))?;
+    }
+    Ok(())
+}
+
+fn value_letter(value: &Value) -> u8 {
+    match value {
+        Value::Null => b'-',
+        Value::Integer(n) => letter(u32::try_from(*n).unwrap_or(u32::MAX)),
+        Value::Text(words) => text_letter(words.len()),
+    }
+}
+
+fn text_letter(len: u32) -> u8 {
+    match len {
+        2 => b'b',
+        143 => b'y',
+        144 => b'z',
+        255 => b'x',
+        _ => b'?',
+    }
 }
 
 #[test]
 fn rows_are_changed(rt: HostRuntime) -> Result<(), Fail> {
-    let alloc = rt.alloc();
-    let mut row = Row::make(vec![in alloc; Value::Integer(1), Value::Null]?);
-    if row.width() != 2 {
-        return Err(Fail::new("another width"));
-    }
-    row.set(1, Value::Integer(2));
-    assert!(rt; matches!(row.as_slice(), [Value::Integer(1), Value::Integer(2)]));
+    let told = changed(rt.alloc())?;
+    assert_told(&rt, b"1-", told.as_slice(), b" 12 12");
+    Ok(())
+}
+
+fn changed(alloc: Global) -> Result<Vec<u8>, Fail> {
+    let mut text = Vec::new(alloc);
+    tell_changed(&mut text, row(alloc, b"1-")?)?;
+    Ok(text)
+}
+
+// The row's values with 2 in its second column, before it is taken apart and after.
+fn tell_changed(text: &mut Vec<u8>, mut row: Row) -> Result<(), Memory> {
+    put_two(&mut row);
+    tell_values(text, row.as_slice())?;
     let values = row.into_values();
-    assert!(rt; matches!(values.as_slice(), [Value::Integer(1), Value::Integer(2)]));
-    Ok(())
+    tell_values(text, values.as_slice())
 }
 
-// The set of these columns, all below 32.
-fn set_of(columns: &[u32]) -> ColSet {
-    let mut set = ColSet::empty();
-    for c in columns {
-        set = set.with(*c % COLUMN_LIMIT);
+fn put_two(row: &mut Row) {
+    if row.width() == 2 {
+        row.set(1, Value::Integer(2));
     }
-    set
 }
 
-#[test]
-fn sets_have_their_columns(rt: HostRuntime) -> Result<(), Fail> {
-    let cases: [(&[u32], u32); 6] = [
-        (&[], 0),
-        (&[0], 1),
-        (&[31], 1),
-        (&[0, 31], 2),
-        (&[3, 5, 7], 3),
-        (&[31, 2, 2, 30], 3),
-    ];
-    for (columns, len) in cases {
-        let set = set_of(columns);
-        for c in 0..40 {
-            let within = columns.iter().any(|column| *column == c);
-            assert_eq!(rt; set.has(c), within, "{c} in {columns:?}");
-        }
-        assert_eq!(rt; set.len(), len, "at {columns:?}");
-        assert!(rt;
-            set.first() == columns.iter().copied().min(),
-            "at {columns:?}"
-        );
-        assert!(rt; set.is_inside(ColSet::below(32)) && ColSet::empty().is_inside(set));
-        assert!(rt; set.minus(set) == ColSet::empty() && set.plus(set) == set);
-        assert!(rt; set.with(5).without(5) == set.without(5));
-    }
-    assert_eq!(rt; ColSet::below(0).len(), 0);
-    assert_eq!(rt; ColSet::below(32).len(), 32);
-    assert!(rt; ColSet::below(3) == set_of(&[2, 1, 0]));
-    assert!(rt; set_of(&[1, 4, 9]).minus(set_of(&[4, 5])) == set_of(&[1, 9]));
-    assert!(rt; set_of(&[1, 4]).plus(set_of(&[4, 5])) == set_of(&[1, 4, 5]));
-    assert!(rt;
-        set_of(&[4]).is_inside(set_of(&[1, 4])) && !set_of(&[1, 4]).is_inside(set_of(&[4]))
-    );
-    Ok(())
-}
-
-#[test]
-fn sets_are_walked_and_ordered(rt: HostRuntime) -> Result<(), Fail> {
-    // Each set comes before all that stand behind it: smaller ones first, then by their columns.
-    let ascending: [&[u32]; 9] = [
-        &[],
-        &[0],
-        &[1],
-        &[31],
-        &[0, 1],
-        &[0, 31],
-        &[1, 2],
-        &[30, 31],
-        &[0, 1, 2],
-    ];
-    for (i, columns) in ascending.iter().enumerate() {
-        for (j, others) in ascending.iter().enumerate() {
-            assert_eq!(rt;
-                set_of(columns).cmp(&set_of(others)),
-                i.cmp(&j),
-                "at {i} and {j}"
-            );
-        }
-        let mut left = set_of(columns);
-        for column in *columns {
-            let Some((c, rest)) = left.split_first() else {
-                return Err(Fail::new("no column is left"));
-            };
-            assert_eq!(rt; c, *column);
-            left = rest;
-        }
-        assert!(rt; left.split_first().is_none());
+fn tell_values(text: &mut Vec<u8>, values: &[Value]) -> Result<(), Memory> {
+    text.push(b' ')?;
+    for value in values {
+        text.push(value_letter(value))?;
     }
     Ok(())
 }
 
+// ---- lists
+
 #[test]
-fn all_may_be_shared_by_threads(rt: HostRuntime) -> Result<(), Fail> {
-    let alloc = rt.alloc();
-    let name = Name::read(alloc, b"t")?;
-    assert!(rt; name.is_some());
-    crosses(&name);
-    let placed = Placed {
-        id: 1,
-        row: Row::make(Vec::new(alloc)),
-    };
-    crosses(&placed);
-    crosses(&Items::from_vec(vec![in alloc; placed]?));
-    crosses(&Bytes::from_vec(Vec::new(alloc)));
-    crosses(&Value::Text(Words::read(alloc, b"a")?));
-    crosses(&WordsErr::Memory);
-    crosses(&Refusal::NotStatement { line: 1 });
-    crosses(&Items::from_vec(vec![in alloc; ColSet::empty()]?));
-    let key = KeyDecl {
-        sort: Sort::Certain,
-        columns: ColSet::empty(),
-    };
-    crosses(&Items::from_vec(vec![in alloc; key]?));
-    crosses(&Kind::Text);
-    crosses(&Rule::Strengthen);
-    crosses(&Changes {
-        gone: Items::from_vec(vec![in alloc; 1u64]?),
-        put: Items::from_vec(Vec::new(alloc)),
-    });
-    crosses(&Break {
-        key: 1,
-        sort: Sort::Possible,
-        low: 1,
-        high: 2,
-        values: Row::make(Vec::new(alloc)),
-    });
-    crosses(&Memory);
+fn lists_are_kept(rt: HostRuntime) -> Result<(), Fail> {
+    let mut told = Vec::new(rt.alloc());
+    tell_items(&mut told)?;
+    tell_bytes(&mut told)?;
+    assert_told(&rt, b"lists", told.as_slice(), b"; 3 1 2; 3 1 2 ab ab ab");
     Ok(())
+}
+
+fn tell_items(text: &mut Vec<u8>) -> Result<(), Memory> {
+    let items = Items::from_vec(Vec::from_slice(*text.allocator(), &[3u64, 1, 2])?);
+    tell_numbers(text, items.as_slice())?;
+    let numbers = items.into_vec();
+    tell_numbers(text, numbers.as_slice())
+}
+
+fn tell_numbers(text: &mut Vec<u8>, numbers: &[u64]) -> Result<(), Memory> {
+    text.push(b';')?;
+    for n in numbers {
+        text.push(b' ')?;
+        tell_number(text, *n)?;
+    }
+    Ok(())
+}
+
+fn tell_bytes(text: &mut Vec<u8>) -> Result<(), Memory> {
+    let alloc = *text.allocator();
+    let bytes = Bytes::from_vec(Vec::from_slice(alloc, b"ab")?);
+    tell_word(text, bytes.as_slice())?;
+    let bytes = bytes.into_vec();
+    tell_word(text, bytes.as_slice())?;
+    let copy = Bytes::copy(alloc, b"ab")?;
+    tell_word(text, copy.as_slice())
 }
