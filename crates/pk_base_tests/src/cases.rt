@@ -25,12 +25,3 @@ pub(crate) fn order_sign(order: Ordering) -> u8 {
         Ordering::Greater => b'>',
     }
 }
-
-/// The digit of a number up to 9, the letter from `a` on of one up to 31, and `?` of a greater one.
-pub(crate) fn letter(n: u32) -> u8 {
-    match u8::try_from(n) {
-        Ok(n) if n < 10 => b'0' + n,
-        Ok(n) if n < 32 => b'a' + (n - 10),
-        _ => b'?',
-    }
-}

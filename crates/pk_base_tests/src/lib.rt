@@ -15,6 +15,8 @@ mod sets;
 #[cfg(test)]
 mod similar;
 #[cfg(test)]
+mod spelled;
+#[cfg(test)]
 mod threads;
 #[cfg(test)]
 mod values;

@@ -3,7 +3,7 @@
 //! A set is spelled by the letters of its columns: the digits are the columns 0 to 9, and `a` to `v` are those
 //! from 10 to 31.
 
-use crate::cases::{assert_told, letter, order_sign};
+use crate::cases::{assert_told, order_sign};
 use pk_values::{COLUMN_LIMIT, ColSet, Memory};
 use std::alloc::Global;
 use std::test::Fail;
@@ -145,6 +145,15 @@ fn tell_first(text: &mut Vec<u8>, set: ColSet) -> Result<ColSet, Memory> {
             Ok(others)
         }
         None => Ok(set),
+    }
+}
+
+// The digit or letter of a number, and `?` where it is above 31.
+fn letter(n: u32) -> u8 {
+    match u8::try_from(n) {
+        Ok(n) if n < 10 => b'0' + n,
+        Ok(n) if n < 32 => b'a' + (n - 10),
+        _ => b'?',
     }
 }
 

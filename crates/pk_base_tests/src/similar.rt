@@ -1,58 +1,18 @@
 //! Pairs of rows, on columns of both.
 //!
-//! A case is a line: two rows, columns, and what is told of them, with bars between. An entry is a letter: a
-//! digit is that number, `<` and `>` are the least number and the greatest, `e`, `s` and `l` are the texts of 0,
-//! 254 and 255 letters, and `-` is null. A column is the letter so many places behind `0`, from `0` to `O`.
+//! A case is a line: two rows of letters, columns, and what is told of them, with bars between. A column is the letter
+//! so many places behind `0`, from `0` to `O`.
 
 ghost use Rattle.std.specs.Prelude.{IsTrue, length};
 ghost use Rattle.pk_values.specs.ColumnSet.{columns};
 ghost use Rattle.pk_similar.specs.Similarity.{are_below};
 
 use crate::cases::{assert_told, cut};
+use crate::spelled::{row, tell_values};
 use pk_similar::{apart, fill, lies_below, not_same, strong, weak};
-use pk_values::{ColSet, Kind, MOST_COLUMNS, Memory, Row, Value, Words};
+use pk_values::{ColSet, Kind, Memory, Row};
 use std::alloc::Global;
 use std::test::Fail;
-
-const LONG: [u8; 255] = [b'a'; 255];
-
-// ---- what is spelled
-
-fn row(alloc: Global, letters: &[u8]) -> Result<Row, Fail> {
-    let mut values = Vec::new(alloc);
-    read_values(&mut values, letters)?;
-    if values.len() > MOST_COLUMNS {
-        return Err("no row".into());
-    }
-    Ok(Row::make(values))
-}
-
-fn read_values(values: &mut Vec<Value>, letters: &[u8]) -> Result<(), Memory> {
-    let alloc = *values.allocator();
-    for letter in letters {
-        values.push(value(alloc, *letter)?)?;
-    }
-    Ok(())
-}
-
-fn value(alloc: Global, letter: u8) -> Result<Value, Memory> {
-    match letter {
-        b'0'..=b'9' => Ok(Value::Integer(i64::from(letter - b'0'))),
-        b'<' => Ok(Value::Integer(i64::MIN)),
-        b'>' => Ok(Value::Integer(i64::MAX)),
-        b'e' => text(alloc, b""),
-        b's' => text(alloc, &LONG[..254]),
-        b'l' => text(alloc, &LONG),
-        _ => Ok(Value::Null),
-    }
-}
-
-fn text(alloc: Global, bytes: &[u8]) -> Result<Value, Memory> {
-    match Words::read(alloc, bytes) {
-        Ok(words) => Ok(Value::Text(words)),
-        Err(_) => Err(Memory),
-    }
-}
 
 fn set(letters: &[u8]) -> Result<ColSet, Fail> {
     let mut set = ColSet::empty();
@@ -83,8 +43,8 @@ const PAIRS: &[u8] = b"\
 12- | 32- | 1 | ws//
 <> | <> | 01 | ws//
 <> | >< | 01 | /01/01
-el | el | 01 | ws//
-el | ls | 01 | /01/01
+ex | ex | 01 | ws//
+ex | xs | 01 | /01/01
 00000000000000000000000000000000 | 00000000000000000000000000000000 \
     | 0123456789:;<=>?@ABCDEFGHIJKLMNO | ws//
 00000000000000000000000000000000 | -------------------------------- \
@@ -150,12 +110,12 @@ fn tell_columns(text: &mut Vec<u8>, set: ColSet) -> Result<(), Memory> {
 
 // The rows are of a number, a text and a number. What is told: the values of both on the columns.
 const FILLED: &[u8] = b"\
-1e2 | 3l4 | |
+1e2 | 3x4 | |
 1-- | --2 | 02 | 12
 1-- | --2 | 2 | 2
 1-- | --2 | 012 | 1e2
 --- | --- | 012 | 0e0
-7-8 | 7l8 | 01 | 7l
+7-8 | 7x8 | 01 | 7x
 -e5 | --6 | 01 | 0e
 <-1 | -s> | 01 | <s";
 
@@ -167,7 +127,7 @@ fn similar_rows_are_filled(rt: HostRuntime) -> Result<(), Fail> {
         let (b, rest) = cut(rest);
         let (columns, want) = cut(rest);
         let filled = filled(alloc, a, b, columns)?;
-        let told = spelled(alloc, filled.as_slice())?;
+        let told = letters_of(alloc, &filled)?;
         assert_told(&rt, case, told.as_slice(), want);
     }
     Ok(())
@@ -191,48 +151,8 @@ fn filled_on(alloc: Global, a: &Row, b: &Row, x: ColSet) -> Result<Row, Fail> {
     Ok(fill(alloc, a, b, &kinds, x)?)
 }
 
-fn spelled(alloc: Global, values: &[Value]) -> Result<Vec<u8>, Memory> {
+fn letters_of(alloc: Global, row: &Row) -> Result<Vec<u8>, Memory> {
     let mut letters = Vec::new(alloc);
-    for value in values {
-        letters.push(letter(value))?;
-    }
+    tell_values(&mut letters, row.as_slice())?;
     Ok(letters)
-}
-
-// The letter that spells the value, and `?` where none does.
-fn letter(value: &Value) -> u8 {
-    match value {
-        Value::Null => b'-',
-        Value::Integer(n) => number_letter(*n),
-        Value::Text(words) => text_letter(words.as_slice()),
-    }
-}
-
-fn number_letter(n: i64) -> u8 {
-    if n == i64::MIN {
-        b'<'
-    } else if n == i64::MAX {
-        b'>'
-    } else {
-        digit(n)
-    }
-}
-
-fn digit(n: i64) -> u8 {
-    match u8::try_from(n) {
-        Ok(n) if n < 10 => b'0' + n,
-        _ => b'?',
-    }
-}
-
-fn text_letter(bytes: &[u8]) -> u8 {
-    if bytes.is_empty() {
-        b'e'
-    } else if bytes == &LONG[..254] {
-        b's'
-    } else if bytes == LONG.as_slice() {
-        b'l'
-    } else {
-        b'?'
-    }
 }

@@ -1,10 +1,8 @@
-//! Names, words, values, rows and lists.
-//!
-//! The values of a row are a letter each: a digit is that number, `-` is null, and a text of `a`s alone is `b` where
-//! it has 2 bytes, `y` where it has 143, `z` where it has 144, and `x` where it has 255.
+//! Names, words, values, rows and lists. The values of a row are spelled by letters.
 
-use crate::cases::{assert_told, cut, letter, order_sign};
-use pk_values::{Bytes, Items, Kind, MOST_COLUMNS, Memory, Name, Row, Value, Words, WordsErr};
+use crate::cases::{assert_told, cut, order_sign};
+use crate::spelled::{row, tell_values, text, value_letter};
+use pk_values::{Bytes, Items, Kind, Memory, Name, Row, Value, Words, WordsErr};
 use std::alloc::Global;
 use std::io::Write;
 use std::process::Abort;
@@ -207,16 +205,9 @@ fn add_numbers(values: &mut Vec<Value>) -> Result<(), Memory> {
 fn add_texts(values: &mut Vec<Value>) -> Result<(), Memory> {
     let alloc = *values.allocator();
     for bytes in TEXTS {
-        values.push(text_value(alloc, bytes)?)?;
+        values.push(text(alloc, bytes)?)?;
     }
     Ok(())
-}
-
-fn text_value(alloc: Global, bytes: &[u8]) -> Result<Value, Memory> {
-    match Words::read(alloc, bytes) {
-        Ok(words) => Ok(Value::Text(words)),
-        Err(_) => Err(Memory),
-    }
 }
 
 fn values_told(alloc: Global, values: &[Value]) -> Result<Vec<u8>, Memory> {
@@ -287,45 +278,6 @@ fn tell_spelled(text: &mut Vec<u8>, letters: &[u8]) -> Result<(), Fail> {
     Ok(tell_measured(text, &row)?)
 }
 
-fn row(alloc: Global, letters: &[u8]) -> Result<Row, Fail> {
-    let mut values = Vec::new(alloc);
-    read_values(&mut values, letters)?;
-    if values.len() > MOST_COLUMNS {
-        return Err("too many values".into());
-    }
-    Ok(Row::make(values))
-}
-
-fn read_values(values: &mut Vec<Value>, letters: &[u8]) -> Result<(), Memory> {
-    let alloc = *values.allocator();
-    for letter in letters {
-        values.push(value(alloc, *letter)?)?;
-    }
-    Ok(())
-}
-
-fn value(alloc: Global, letter: u8) -> Result<Value, Memory> {
-    match letter {
-        b'0'..=b'9' => Ok(Value::Integer(i64::from(letter - b'0'))),
-        b'-' => Ok(Value::Null),
-        _ => long_text(alloc, text_len(letter)),
-    }
-}
-
-fn long_text(alloc: Global, len: usize) -> Result<Value, Memory> {
-    let bytes = vec![in alloc; b'a'; len]?;
-    text_value(alloc, bytes.as_slice())
-}
-
-fn text_len(letter: u8) -> usize {
-    match letter {
-        b'b' => 2,
-        b'y' => 143,
-        b'z' => 144,
-        _ => 255,
-    }
-}
-
 fn tell_measured(text: &mut Vec<u8>, row: &Row) -> Result<(), Memory> {
     tell_number(text, u64::from(row.record_len()))?;
     let copy = row.copy()?;
@@ -342,28 +294,10 @@ fn tell_row(text: &mut Vec<u8>, row: &Row) -> Result<(), Memory> {
     Ok(())
 }
 
-fn value_letter(value: &Value) -> u8 {
-    match value {
-        Value::Null => b'-',
-        Value::Integer(n) => letter(u32::try_from(*n).unwrap_or(u32::MAX)),
-        Value::Text(words) => text_letter(words.len()),
-    }
-}
-
-fn text_letter(len: u32) -> u8 {
-    match len {
-        2 => b'b',
-        143 => b'y',
-        144 => b'z',
-        255 => b'x',
-        _ => b'?',
-    }
-}
-
 #[test]
 fn rows_are_changed(rt: HostRuntime) -> Result<(), Fail> {
     let told = changed(rt.alloc())?;
-    assert_told(&rt, b"1-", told.as_slice(), b" 12 12");
+    assert_told(&rt, b"1-", told.as_slice(), b"12 12");
     Ok(())
 }
 
@@ -377,6 +311,7 @@ fn changed(alloc: Global) -> Result<Vec<u8>, Fail> {
 fn tell_changed(text: &mut Vec<u8>, mut row: Row) -> Result<(), Memory> {
     put_two(&mut row);
     tell_values(text, row.as_slice())?;
+    text.push(b' ')?;
     let values = row.into_values();
     tell_values(text, values.as_slice())
 }
@@ -385,14 +320,6 @@ fn put_two(row: &mut Row) {
     if row.width() == 2 {
         row.set(1, Value::Integer(2));
     }
-}
-
-fn tell_values(text: &mut Vec<u8>, values: &[Value]) -> Result<(), Memory> {
-    text.push(b' ')?;
-    for value in values {
-        text.push(value_letter(value))?;
-    }
-    Ok(())
 }
 
 // ---- lists
