@@ -6,20 +6,12 @@ ghost use Rattle.keytab.specs.Faults.{IsWordsFault};
 use pk_run::Status;
 use std::alloc::{AllocError, Global};
 use std::env::Args;
+use std::io;
 use std::io::ErrorKind;
-use std::rt::Env;
-use std::{env, io};
 
-/// The words after the program's name.
-pub fn words<R: Env + AllocGlobal>(rt: &R) -> Result<Vec<String>, Status>
-    ensures { IfErr result IsWordsFault }
-{
-    behind_the_name(rt.alloc(), env::args(rt))
-}
-
-/// The arguments behind the first, which is the program's name, in order. Where one is no text they are none of
-/// the plain forms.
-pub fn behind_the_name(alloc: Global, args: io::Result<Args>) -> Result<Vec<String>, Status>
+/// The words after the program's name: the arguments behind the first, in order. Where one is no text they are
+/// none of the plain forms.
+pub fn words(alloc: Global, args: io::Result<Args>) -> Result<Vec<String>, Status>
     ensures words { IfOk args (λ all. MatchResult result (λ words. words.items ≡ drop 1 (into_iter_items all)) (λ status. status ≡ Status.OutOfMemory)) }
     ensures memory { IfErr args (λ error. error_kind error ≡ ErrorKind.OutOfMemory → result ≡ Err Status.OutOfMemory) }
     ensures no_text { IfErr args (λ error. error_kind error ≢ ErrorKind.OutOfMemory → result ≡ Err Status.Usage) }

@@ -17,8 +17,8 @@ use arguments::words;
 use input::Input;
 use output::Output;
 use program::run_program;
-use std::io;
 use std::process::ExitCode;
+use std::{env, io};
 
 fn main(rt: HostRuntime) -> ExitCode {
     let mut script = Input::new(rt.reader());
@@ -26,7 +26,7 @@ fn main(rt: HostRuntime) -> ExitCode {
     let mut errors = rt.stderr();
     run_program(
         rt.alloc(),
-        words(&rt),
+        words(rt.alloc(), env::args(&rt)),
         &mut script,
         &mut replies,
         &mut errors,

@@ -1,5 +1,4 @@
 use super::*;
-use crate::arguments::behind_the_name;
 use crate::program::ended;
 use pk_run::Status;
 use pk_world::{Failed, MemorySource, MemoryStation, Pull, Source, Station};
@@ -275,7 +274,7 @@ fn the_words_decide_what_is_done(rt: HostRuntime) -> Result<(), Fail> {
         let mut source = MemorySource::new(alloc, SCRIPT, 7, &[])?;
         let mut station = MemoryStation::new(alloc, b"", b"", &[])?;
         let mut errors = Vec::new(alloc);
-        let words = words(&(arguments, alloc));
+        let words = words(alloc, env::args(&(arguments, alloc)));
         let got = run_program(alloc, words, &mut source, &mut station, &mut errors);
         assert_eq!(rt; got, ExitCode::from(code), "at {all:?}");
         assert_eq!(rt; station.told(), told);
@@ -290,7 +289,7 @@ fn arguments_that_cannot_be_had_have_their_cause(rt: HostRuntime) {
         (ErrorKind::OutOfMemory, Status::OutOfMemory),
         (ErrorKind::InvalidData, Status::Usage),
     ] {
-        let words = behind_the_name(rt.alloc(), Err(io::Error::from(kind)));
+        let words = words(rt.alloc(), Err(io::Error::from(kind)));
         assert_eq!(rt; words.err(), Some(status));
     }
 }

@@ -6,15 +6,15 @@ use Rattle.pk_values.specs.declared.kind.Kind.{Kind}
 use Rattle.pk_values.specs.declared.kind.Kind.TheVariants as kinds
 use Rattle.pk_values.specs.declared.refusal.Refusal.{Refusal}
 use Rattle.pk_values.specs.Refusals.{first_some}
-use Rattle.pk_parse.specs.declared.declaration.ColumnDecl.{ColumnDecl}
-use Rattle.pk_parse.specs.declared.condition.Operand.{Operand}
-use Rattle.pk_parse.specs.declared.condition.Operand.TheVariants.{Known, Column}
-use Rattle.pk_parse.specs.declared.condition.Test.{Test}
-use Rattle.pk_parse.specs.declared.condition.Test.TheOpen as layers
-use Rattle.pk_parse.specs.declared.condition.Test.TheOpen.{Test-F}
-use Rattle.pk_parse.specs.declared.condition.Test.TheViews.{roll-Test}
-use Rattle.pk_parse.specs.declared.condition.Test.TheFolds.{map-Test, fold-roll-Test, ind-Test}
-use Rattle.pk_parse.specs.Given.{operand_has_utf8, test_step, test_has_utf8, cond_has_utf8}
+use Rattle.pk_syntax.specs.declared.declaration.ColumnDecl.{ColumnDecl}
+use Rattle.pk_syntax.specs.declared.condition.Operand.{Operand}
+use Rattle.pk_syntax.specs.declared.condition.Operand.TheVariants.{Known, Column}
+use Rattle.pk_syntax.specs.declared.condition.Test.{Test}
+use Rattle.pk_syntax.specs.declared.condition.Test.TheOpen as layers
+use Rattle.pk_syntax.specs.declared.condition.Test.TheOpen.{Test-F}
+use Rattle.pk_syntax.specs.declared.condition.Test.TheViews.{roll-Test}
+use Rattle.pk_syntax.specs.declared.condition.Test.TheFolds.{map-Test, fold-roll-Test, ind-Test}
+use Rattle.pk_syntax.specs.Given.{operand_has_utf8, test_step, test_has_utf8, cond_has_utf8}
 use Rattle.pk_logic.specs.declared.condition.Op.{Op}
 use Rattle.pk_logic.specs.declared.condition.Side.{Side}
 use Rattle.pk_logic.specs.declared.condition.Cond.{Cond}

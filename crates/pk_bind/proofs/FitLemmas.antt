@@ -4,22 +4,22 @@ use Rattle.std.specs.List.{list_all, range_with_len}
 use Rattle.std.proofs.lemmas.Bool.{and_parts, and_from, lt-ltb}
 use Rattle.std.proofs.lemmas.Option.{slice_get_within}
 use Rattle.pk_values.specs.Refusals.{first_some, or_else, first_by}
-use Rattle.pk_parse.specs.declared.declaration.ColumnDecl.{ColumnDecl}
-use Rattle.pk_parse.specs.declared.edit.Delete.{Delete}
-use Rattle.pk_parse.specs.declared.edit.SetPart.{SetPart}
-use Rattle.pk_parse.specs.declared.edit.Update.{Update}
-use Rattle.pk_parse.specs.declared.query.OrderPart.{OrderPart}
-use Rattle.pk_parse.specs.declared.query.Select.{Select}
-use Rattle.pk_parse.specs.declared.query.What.{What}
-use Rattle.pk_parse.specs.declared.query.What.TheVariants.{All, Columns, Count}
-use Rattle.pk_parse.specs.Given.{has_utf8, cond_has_utf8}
-use Rattle.pk_schema.specs.Shapes.{Shape}
+use Rattle.pk_syntax.specs.declared.declaration.ColumnDecl.{ColumnDecl}
+use Rattle.pk_syntax.specs.declared.edit.Delete.{Delete}
+use Rattle.pk_syntax.specs.declared.edit.SetPart.{SetPart}
+use Rattle.pk_syntax.specs.declared.edit.Update.{Update}
+use Rattle.pk_syntax.specs.declared.query.OrderPart.{OrderPart}
+use Rattle.pk_syntax.specs.declared.query.Select.{Select}
+use Rattle.pk_syntax.specs.declared.query.What.{What}
+use Rattle.pk_syntax.specs.declared.query.What.TheVariants.{All, Columns, Count}
+use Rattle.pk_syntax.specs.Given.{has_utf8, cond_has_utf8}
+use Rattle.pk_schema.specs.Shapes.{Shape, IsShape}
 use Rattle.pk_bind.specs.declared.literals.Check.{Check}
 use Rattle.pk_bind.specs.declared.literals.Check.TheVariants as checks
 use Rattle.pk_bind.specs.declared.searching.Search.TheVariants as searches
 use Rattle.pk_bind.specs.Columns.{no_column, column_at}
-use Rattle.pk_bind.specs.Literals.{stored_value}
-use Rattle.pk_bind.specs.Conditions.{cond_fault, cond_asked}
+use Rattle.pk_bind.specs.Literals.{has_words, stored_value}
+use Rattle.pk_bind.specs.Conditions.{cond_fault, cond_has_words, cond_asked}
 use Rattle.pk_bind.specs.Update.{found_fault, set_fault, update_refusals, set_of, edit_of}
 use Rattle.pk_bind.specs.Delete.{delete_refusals}
 use Rattle.pk_bind.specs.Select.{missing_shown, missing_order, select_refusals, shown_of, order_of, selection_of}
@@ -27,6 +27,7 @@ use Rattle.pk_bind.specs.Fitting.{cond_fits, holds_at, set_fits, edit_fits, show
 use Rattle.pk_bind.proofs.FoundLemmas.{none_stand, column_found}
 use Rattle.pk_bind.proofs.LiteralLemmas.{by_check, stored_holds}
 use Rattle.pk_bind.proofs.ConditionLemmas.{cond_bound_fits}
+use Rattle.pk_bind.proofs.WordsLemmas.{shape_keeps, sets_words, cond_words}
 use Rattle.pk_values.proofs.RefusalLemmas.{neither}
 
 -- ---- places
@@ -75,6 +76,12 @@ deleted_fits s d utf8 free =
     let none = none_stand (delete_refusals s d) free in
     cond_bound_fits s.columns d.table d.cond utf8 none.0 none.1.0
 
+pub deleted_words : (s : Shape) (d : Delete) → cond_has_utf8 d.cond ≡ true → first_some (delete_refusals s d) ≡ None → cond_has_words d.cond ≡ true
+unfolding delete_refusals
+deleted_words s d utf8 free =
+    let none = none_stand (delete_refusals s d) free in
+    cond_words s.columns d.table d.cond utf8 none.1.1.1.0
+
 pub selected_fits : (s : Shape) (q : Select) → cond_has_utf8 q.cond ≡ true → first_some (select_refusals s q) ≡ None
     → selection_fits s.columns (selection_of s.columns q) ≡ true
 unfolding select_refusals selection_of
@@ -88,6 +95,12 @@ selected_fits s q utf8 free =
     and_from (cond_fits s.columns cond && shown_fits s.columns (shown_of s.columns q.what)) _
     (and_from (cond_fits s.columns cond) _ (cond_bound_fits s.columns q.table q.cond utf8 asked.0 none.1.0) (shown_within s.columns q.table q.what shown.0))
     (order_within s.columns q.table q.order asked.1)
+
+pub selected_words : (s : Shape) (q : Select) → cond_has_utf8 q.cond ≡ true → first_some (select_refusals s q) ≡ None → cond_has_words q.cond ≡ true
+unfolding select_refusals
+selected_words s q utf8 free =
+    let none = none_stand (select_refusals s q) free in
+    cond_words s.columns q.table q.cond utf8 none.1.1.1.0
 
 -- ---- UPDATE
 
@@ -125,3 +138,13 @@ edited_fits s u utf8 free =
     (sets_fit s.columns u.table u.sets texts.0 there.0
     (by_check (λ check. first_by (set_fault check s.columns) u.sets ≡ None) same.0 small.0 short.0 none.1.1.1.1.1.0))
     (cond_bound_fits s.columns u.table u.cond texts.1 there.1 same.1)
+
+pub edited_words : (s : Shape) (u : Update) → IsShape s → (list_all (λ (part : SetPart). has_utf8 part.value) u.sets && cond_has_utf8 u.cond) ≡ true
+    → first_some (update_refusals s u) ≡ None → (list_all (λ (part : SetPart). has_words part.value) u.sets ≡ true) × (cond_has_words u.cond ≡ true)
+unfolding update_refusals
+edited_words s u shape utf8 free =
+    let texts = and_parts (list_all (λ (part : SetPart). has_utf8 part.value) u.sets) (cond_has_utf8 u.cond) utf8 in
+    let none = none_stand (update_refusals s u) free in
+    let there = neither (first_by (λ (part : SetPart). no_column s.columns u.table part.column) u.sets) (cond_fault searches.Missing s.columns u.table u.cond) none.0 in
+    let short = neither (first_by (set_fault checks.Length s.columns) u.sets) (cond_fault searches.Length s.columns u.table u.cond) none.1.1.1.1.0 in
+    (sets_words s.columns u.table u.sets (shape_keeps s shape) texts.0 there.0 short.0, cond_words s.columns u.table u.cond texts.1 short.1)

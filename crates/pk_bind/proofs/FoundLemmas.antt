@@ -7,7 +7,7 @@ use Rattle.std.proofs.lemmas.List.Folds.{find_at}
 use Rattle.std.proofs.lemmas.Option.{slice_get_within}
 use Rattle.pk_values.specs.declared.refusal.Refusal.{Refusal}
 use Rattle.pk_values.specs.Refusals.{first_some}
-use Rattle.pk_parse.specs.declared.declaration.ColumnDecl.{ColumnDecl}
+use Rattle.pk_syntax.specs.declared.declaration.ColumnDecl.{ColumnDecl}
 use Rattle.pk_logic.specs.Kinds.{kind_at}
 use Rattle.pk_schema.specs.Shapes.{is_column, place_of_column, column_named, kinds_of}
 use Rattle.pk_bind.specs.Columns.{unless_found, no_column, column_at}

@@ -10,11 +10,11 @@ use Rattle.std.proofs.lemmas.Option.{slice_get-get_or, slice_get_within}
 use Rattle.pk_values.specs.declared.value.Value.TheVariants as values
 use Rattle.pk_values.specs.Records.{row_record}
 use Rattle.pk_values.specs.Refusals.{first_some, first_by}
-use Rattle.pk_parse.specs.declared.declaration.ColumnDecl.{ColumnDecl}
-use Rattle.pk_parse.specs.declared.edit.Insert.{Insert}
-use Rattle.pk_parse.specs.declared.literal.Literal.{Literal}
-use Rattle.pk_parse.specs.declared.literal.Literal.TheVariants as literals
-use Rattle.pk_parse.specs.Given.{has_utf8}
+use Rattle.pk_syntax.specs.declared.declaration.ColumnDecl.{ColumnDecl}
+use Rattle.pk_syntax.specs.declared.edit.Insert.{Insert}
+use Rattle.pk_syntax.specs.declared.literal.Literal.{Literal}
+use Rattle.pk_syntax.specs.declared.literal.Literal.TheVariants as literals
+use Rattle.pk_syntax.specs.Given.{has_utf8}
 use Rattle.pk_schema.specs.Shapes.{Shape, IsShape, place_of_column}
 use Rattle.pk_schema.specs.Admits.{Admits}
 use Rattle.pk_bind.specs.declared.literals.Check.{Check}
@@ -42,7 +42,7 @@ fault_at check (d ∷ ds) (m ∷ ms) zero c l free here there =
 fault_at check (d ∷ ds) (m ∷ ms) (suc i) c l free here there =
     fault_at check ds ms i c l (neither (stored_fault check d m) (tuple_fault check ds ms) free).1 here there
 
-holds_at : {X : Type 0} (p : X → Bool) (xs : List X) (i : ℕ) (x : X) → list_all p xs ≡ true → slice_get xs i ≡ Some x → p x ≡ true
+pub holds_at : {X : Type 0} (p : X → Bool) (xs : List X) (i : ℕ) (x : X) → list_all p xs ≡ true → slice_get xs i ≡ Some x → p x ≡ true
 holds_at p [] i x all at = absurd cc
 holds_at p (y ∷ ys) zero x all at =
     let same : y ≡ x = cc in

@@ -2,13 +2,13 @@
 use Rattle.std.proofs.Common.{◌≡◌, sym, ◌∙◌, ap, ℕ, Bool, List, map, Option}
 use Rattle.pk_values.specs.declared.refusal.Refusal.{Refusal}
 use Rattle.pk_values.specs.Refusals.{first_some}
-use Rattle.pk_parse.specs.declared.declaration.ColumnDecl.{ColumnDecl}
-use Rattle.pk_parse.specs.declared.condition.Op.{Op}
-use Rattle.pk_parse.specs.declared.condition.Operand.{Operand}
-use Rattle.pk_parse.specs.declared.condition.Test.{Test}
-use Rattle.pk_parse.specs.declared.condition.Test.TheVariants.{Compare, IsNull, Not, All, Any, rolls-Compare, rolls-IsNull, rolls-Not, rolls-All, rolls-Any}
-use Rattle.pk_parse.specs.declared.condition.Test.TheOpen as layers
-use Rattle.pk_parse.specs.declared.condition.Test.TheFolds.{fold-roll-Test}
+use Rattle.pk_syntax.specs.declared.declaration.ColumnDecl.{ColumnDecl}
+use Rattle.pk_syntax.specs.declared.condition.Op.{Op}
+use Rattle.pk_syntax.specs.declared.condition.Operand.{Operand}
+use Rattle.pk_syntax.specs.declared.condition.Test.{Test}
+use Rattle.pk_syntax.specs.declared.condition.Test.TheVariants.{Compare, IsNull, Not, All, Any, rolls-Compare, rolls-IsNull, rolls-Not, rolls-All, rolls-Any}
+use Rattle.pk_syntax.specs.declared.condition.Test.TheOpen as layers
+use Rattle.pk_syntax.specs.declared.condition.Test.TheFolds.{fold-roll-Test}
 use Rattle.pk_logic.specs.declared.condition.Cond.{Cond}
 use Rattle.pk_logic.specs.declared.condition.Cond.TheVariants as conds
 use Rattle.pk_bind.specs.declared.searching.Search.{Search}

@@ -1,6 +1,7 @@
 pub mod Utf8Lemmas
 pub mod FoundLemmas
 pub mod LiteralLemmas
+pub mod WordsLemmas
 pub mod ConditionLemmas
 pub mod BoundLemmas
 pub mod FitLemmas
@@ -8,5 +9,6 @@ pub mod TupleLemmas
 pub mod HeldLemmas
 pub mod ListedLemmas
 pub mod InsertLemmas
+pub mod PlacingLemmas
 pub mod SetLemmas
 pub mod LayerLemmas

@@ -1,18 +1,21 @@
 -- A literal that isn't refused, as a value.
-use Rattle.std.proofs.Common.{◌≡◌, refl, ap, ℕ, Bool, true, false, cond, ◌&&◌, not, List, length, Some, None, nat_le, arith, IsTrue}
-use Rattle.std.specs.Str.{is_utf8}
-use Rattle.std.proofs.lemmas.Bool.{and_from, and_parts, le-leb}
+use Rattle.std.proofs.Common.{◌≡◌, refl, sym, ap, subst, ℕ, Bool, true, false, cond, ◌&&◌, not, List, length, Some, None, nat_le, arith, IsTrue}
+use Rattle.std.specs.Str.{is_utf8, IsUtf8}
+use Rattle.std.proofs.lemmas.List.{take_all}
+use Rattle.std.proofs.lemmas.Str.{IsUtf8-from_is_utf8}
+use Rattle.std.proofs.lemmas.Bool.{and_from, and_parts, leb-true, le-leb}
 use Rattle.pk_values.specs.declared.kind.Kind.{Kind}
 use Rattle.pk_values.specs.declared.kind.Kind.TheVariants as kinds
 use Rattle.pk_values.specs.declared.value.Value.TheVariants as values
 use Rattle.pk_values.specs.declared.refusal.Refusal.{Refusal}
-use Rattle.pk_values.specs.declared.words.TheConstants.{MOST_BYTES}
 use Rattle.pk_values.specs.Values.{fits_kind}
-use Rattle.pk_values.specs.Words.{is_words}
-use Rattle.pk_parse.specs.declared.declaration.ColumnDecl.{ColumnDecl}
-use Rattle.pk_parse.specs.declared.literal.Literal.{Literal}
-use Rattle.pk_parse.specs.declared.literal.Literal.TheVariants.{Null, Number, Wide, Text}
-use Rattle.pk_parse.specs.Given.{has_utf8}
+use Rattle.pk_values.specs.Words.{is_words, IsCause}
+use Rattle.pk_values.specs.declared.words.WordsErr.{WordsErr}
+use Rattle.pk_values.specs.declared.words.WordsErr.TheVariants.{TooLong, NotUtf8, Memory}
+use Rattle.pk_syntax.specs.declared.declaration.ColumnDecl.{ColumnDecl}
+use Rattle.pk_syntax.specs.declared.literal.Literal.{Literal}
+use Rattle.pk_syntax.specs.declared.literal.Literal.TheVariants.{Null, Number, Wide, Text}
+use Rattle.pk_syntax.specs.Given.{has_utf8}
 use Rattle.pk_schema.specs.Admits.{has_other_kind, is_long, is_missing}
 use Rattle.pk_bind.specs.declared.literals.Check.{Check}
 use Rattle.pk_bind.specs.declared.literals.Check.TheVariants as checks
@@ -77,4 +80,13 @@ stored_holds c (Text bytes) utf8 kind wide long null =
 
 -- words are UTF-8
 pub words_are_utf8 : (bytes : List ℕ) → IsTrue (is_words bytes) → IsTrue (is_utf8 bytes)
-words_are_utf8 bytes are = (and_parts (nat_le (length bytes) MOST_BYTES) (is_utf8 bytes) are).1
+words_are_utf8 bytes are = (and_parts (nat_le (length bytes) 255) (is_utf8 bytes) are).1
+
+-- reading words fails for memory alone
+pub is_memory : (e : WordsErr) (bytes : List ℕ) → IsTrue (is_words bytes) → IsCause e bytes → e ≡ Memory
+is_memory (TooLong len) bytes are cause =
+    absurd (omega (arith, cause.1, leb-true (length bytes) 255 (and_parts (nat_le (length bytes) 255) (is_utf8 bytes) are).0))
+is_memory (NotUtf8 at) bytes are cause =
+    absurd (cause.1.longest (length bytes) cause.1.short
+    (subst IsUtf8 (sym (take_all (length bytes) bytes (omega arith))) (IsUtf8-from_is_utf8 bytes (words_are_utf8 bytes are))))
+is_memory Memory bytes are cause = refl

@@ -6,7 +6,7 @@ use Rattle.std.proofs.lemmas.Bool.{and_parts, and_from, le-leb, not-true, not-fa
 use Rattle.pk_values.specs.declared.value.Value.{Value}
 use Rattle.pk_values.specs.Records.{row_record}
 use Rattle.pk_values.specs.Values.{fits_kind, fits_kinds}
-use Rattle.pk_parse.specs.declared.declaration.ColumnDecl.{ColumnDecl}
+use Rattle.pk_syntax.specs.declared.declaration.ColumnDecl.{ColumnDecl}
 use Rattle.pk_logic.specs.declared.condition.Cond.{Cond}
 use Rattle.pk_logic.specs.Conditions.{is_judgeable}
 use Rattle.pk_logic.proofs.KindLemmas.{may_be_judged}

@@ -3,7 +3,7 @@ use Rattle.std.specs.Prelude.{ℕ, List, Option, Some, None}
 use Rattle.std.specs.Option.{unwrap_or}
 use Rattle.pk_values.specs.declared.refusal.Refusal.{Refusal}
 use Rattle.pk_values.specs.declared.refusal.Refusal.TheVariants.{NoColumn}
-use Rattle.pk_parse.specs.declared.declaration.ColumnDecl.{ColumnDecl}
+use Rattle.pk_syntax.specs.declared.declaration.ColumnDecl.{ColumnDecl}
 use Rattle.pk_schema.specs.Shapes.{place_of_column, column_named}
 
 abbrev pub unless_found : List ℕ → List ℕ → Option ColumnDecl → Option Refusal

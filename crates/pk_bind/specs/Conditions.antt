@@ -1,16 +1,17 @@
 -- What a condition is refused for over the columns of a table, and what it says of them.
-use Rattle.std.specs.Prelude.{ℕ, List, [], ◌∷◌, Option, Some, None}
+use Rattle.std.specs.Prelude.{ℕ, Bool, true, List, [], ◌∷◌, Option, Some, None}
+use Rattle.std.specs.List.{list_all}
 use Rattle.std.specs.Option.{option_map}
 use Rattle.pk_values.specs.declared.refusal.Refusal.{Refusal}
 use Rattle.pk_values.specs.Refusals.{first_some, or_else}
-use Rattle.pk_parse.specs.declared.declaration.ColumnDecl.{ColumnDecl}
-use Rattle.pk_parse.specs.declared.condition.Op.{Op as WrittenOp}
-use Rattle.pk_parse.specs.declared.condition.Op.TheVariants as written_ops
-use Rattle.pk_parse.specs.declared.condition.Operand.{Operand}
-use Rattle.pk_parse.specs.declared.condition.Operand.TheVariants.{Known, Column}
-use Rattle.pk_parse.specs.declared.condition.Test.{Test}
-use Rattle.pk_parse.specs.declared.condition.Test.TheOpen.{Test-F, Compare, IsNull, Not, All, Any}
-use Rattle.pk_parse.specs.declared.condition.Test.TheFolds.{fold-Test}
+use Rattle.pk_syntax.specs.declared.declaration.ColumnDecl.{ColumnDecl}
+use Rattle.pk_syntax.specs.declared.condition.Op.{Op as WrittenOp}
+use Rattle.pk_syntax.specs.declared.condition.Op.TheVariants as written_ops
+use Rattle.pk_syntax.specs.declared.condition.Operand.{Operand}
+use Rattle.pk_syntax.specs.declared.condition.Operand.TheVariants.{Known, Column}
+use Rattle.pk_syntax.specs.declared.condition.Test.{Test}
+use Rattle.pk_syntax.specs.declared.condition.Test.TheOpen.{Test-F, Compare, IsNull, Not, All, Any}
+use Rattle.pk_syntax.specs.declared.condition.Test.TheFolds.{fold-Test}
 use Rattle.pk_logic.specs.declared.condition.Op.{Op}
 use Rattle.pk_logic.specs.declared.condition.Op.TheVariants as ops
 use Rattle.pk_logic.specs.declared.condition.Side.{Side}
@@ -21,7 +22,7 @@ use Rattle.pk_schema.specs.Shapes.{column_named}
 use Rattle.pk_bind.specs.declared.searching.Search.{Search}
 use Rattle.pk_bind.specs.declared.searching.Search.TheVariants as searches
 use Rattle.pk_bind.specs.Columns.{no_column, column_at}
-use Rattle.pk_bind.specs.Literals.{unless_kind, kind_fault, wide_fault, long_fault, stored_value}
+use Rattle.pk_bind.specs.Literals.{unless_kind, kind_fault, wide_fault, long_fault, has_words, stored_value}
 
 -- ---- what is found in one comparison
 
@@ -93,6 +94,28 @@ cond_refusals columns table cond =
     ∷ cond_fault searches.Wide columns table cond
     ∷ cond_fault searches.Length columns table cond
     ∷ []
+
+-- ---- texts
+
+abbrev pub operand_has_words : Operand → Bool
+operand_has_words (Known literal) = has_words literal
+operand_has_words (Column name) = true
+
+-- one layer of a condition, with what is so of its members in their places
+abbrev pub words_step : Test-F Bool → Bool
+words_step (Compare name op with) = operand_has_words with
+words_step (IsNull name negated) = true
+words_step (Not member) = member
+words_step (All members) = list_all (λ m. m) members
+words_step (Any members) = list_all (λ m. m) members
+
+-- the texts of a condition are words
+abbrev pub test_has_words : Test → Bool
+test_has_words = fold-Test Bool words_step
+
+abbrev pub cond_has_words : Option Test → Bool
+cond_has_words None = true
+cond_has_words (Some test) = test_has_words test
 
 -- ---- what a condition says of the columns
 

@@ -1,7 +1,7 @@
 -- What a DELETE is refused for. What it says is its condition alone.
 use Rattle.std.specs.Prelude.{List, Option}
 use Rattle.pk_values.specs.declared.refusal.Refusal.{Refusal}
-use Rattle.pk_parse.specs.declared.edit.Delete.{Delete}
+use Rattle.pk_syntax.specs.declared.edit.Delete.{Delete}
 use Rattle.pk_schema.specs.Shapes.{Shape}
 use Rattle.pk_bind.specs.Conditions.{cond_refusals}
 

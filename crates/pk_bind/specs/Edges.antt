@@ -6,16 +6,16 @@ use Rattle.pk_values.specs.declared.value.Value.TheVariants as values
 use Rattle.pk_values.specs.declared.refusal.Refusal.{Refusal}
 use Rattle.pk_values.specs.declared.refusal.Refusal.TheVariants.{NoColumn, ColumnTwice, ValueCount, WrongKind, WideNumber, LongText, NullValue, LongRow}
 use Rattle.pk_values.specs.Refusals.{first_some}
-use Rattle.pk_parse.specs.declared.declaration.ColumnDecl.{ColumnDecl}
-use Rattle.pk_parse.specs.declared.edit.SetPart.{SetPart}
-use Rattle.pk_parse.specs.declared.literal.Literal.{Literal}
-use Rattle.pk_parse.specs.declared.literal.Literal.TheVariants.{Null, Number, Wide, Text}
-use Rattle.pk_parse.specs.declared.condition.Op.TheVariants as written_ops
-use Rattle.pk_parse.specs.declared.condition.Operand.TheVariants.{Known, Column}
-use Rattle.pk_parse.specs.declared.condition.Test.{Test}
-use Rattle.pk_parse.specs.declared.condition.Test.TheVariants.{Compare, IsNull, Not, All, Any}
-use Rattle.pk_parse.specs.declared.query.What.{What}
-use Rattle.pk_parse.specs.declared.query.What.TheVariants as whats
+use Rattle.pk_syntax.specs.declared.declaration.ColumnDecl.{ColumnDecl}
+use Rattle.pk_syntax.specs.declared.edit.SetPart.{SetPart}
+use Rattle.pk_syntax.specs.declared.literal.Literal.{Literal}
+use Rattle.pk_syntax.specs.declared.literal.Literal.TheVariants.{Null, Number, Wide, Text}
+use Rattle.pk_syntax.specs.declared.condition.Op.TheVariants as written_ops
+use Rattle.pk_syntax.specs.declared.condition.Operand.TheVariants.{Known, Column}
+use Rattle.pk_syntax.specs.declared.condition.Test.{Test}
+use Rattle.pk_syntax.specs.declared.condition.Test.TheVariants.{Compare, IsNull, Not, All, Any}
+use Rattle.pk_syntax.specs.declared.query.What.{What}
+use Rattle.pk_syntax.specs.declared.query.What.TheVariants as whats
 use Rattle.pk_logic.specs.declared.condition.Op.TheVariants as ops
 use Rattle.pk_logic.specs.declared.condition.Side.TheVariants as sides
 use Rattle.pk_logic.specs.declared.condition.Cond.TheVariants as conds

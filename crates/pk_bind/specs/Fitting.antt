@@ -2,7 +2,7 @@
 use Rattle.std.specs.Prelude.{Bool, true, false, not, ◌&&◌, List, [], ◌∷◌, length, Option, Some, None, nat_lt, slice_get, slice_set}
 use Rattle.std.specs.List.{list_all}
 use Rattle.pk_values.specs.declared.value.Value.{Value}
-use Rattle.pk_parse.specs.declared.declaration.ColumnDecl.{ColumnDecl}
+use Rattle.pk_syntax.specs.declared.declaration.ColumnDecl.{ColumnDecl}
 use Rattle.pk_logic.specs.declared.condition.Cond.{Cond}
 use Rattle.pk_logic.specs.Kinds.{is_over_kinds}
 use Rattle.pk_schema.specs.Shapes.{kinds_of}

@@ -8,10 +8,10 @@ use Rattle.pk_values.specs.declared.refusal.Refusal.{Refusal}
 use Rattle.pk_values.specs.declared.refusal.Refusal.TheVariants.{ColumnTwice, ValueCount, NullValue, LongRow}
 use Rattle.pk_values.specs.Records.{row_record}
 use Rattle.pk_values.specs.Refusals.{or_else, first_by}
-use Rattle.pk_parse.specs.declared.declaration.ColumnDecl.{ColumnDecl}
-use Rattle.pk_parse.specs.declared.edit.Insert.{Insert}
-use Rattle.pk_parse.specs.declared.literal.Literal.{Literal}
-use Rattle.pk_parse.specs.Declarations.{twice}
+use Rattle.pk_syntax.specs.declared.declaration.ColumnDecl.{ColumnDecl}
+use Rattle.pk_syntax.specs.declared.edit.Insert.{Insert}
+use Rattle.pk_syntax.specs.declared.literal.Literal.{Literal}
+use Rattle.pk_syntax.specs.Declarations.{twice}
 use Rattle.pk_schema.specs.Shapes.{Shape, place_of_column, column_named}
 use Rattle.pk_bind.specs.declared.literals.Check.{Check}
 use Rattle.pk_bind.specs.declared.literals.Check.TheVariants.{Kind, Wide, Length, Null}

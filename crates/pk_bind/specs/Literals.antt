@@ -1,14 +1,15 @@
 -- Literals that are stored in a column or compared with one.
-use Rattle.std.specs.Prelude.{ℕ, List, length, Option, Some, None, nat_le, if◌then◌else◌}
+use Rattle.std.specs.Prelude.{ℕ, Bool, true, List, length, Option, Some, None, nat_le, if◌then◌else◌}
 use Rattle.pk_values.specs.declared.kind.Kind.{Kind}
 use Rattle.pk_values.specs.declared.kind.Kind.TheVariants as kinds
 use Rattle.pk_values.specs.declared.value.Value.{Value}
 use Rattle.pk_values.specs.declared.value.Value.TheVariants as values
 use Rattle.pk_values.specs.declared.refusal.Refusal.{Refusal}
 use Rattle.pk_values.specs.declared.refusal.Refusal.TheVariants.{WrongKind, WideNumber, LongText, NullValue}
-use Rattle.pk_parse.specs.declared.declaration.ColumnDecl.{ColumnDecl}
-use Rattle.pk_parse.specs.declared.literal.Literal.{Literal}
-use Rattle.pk_parse.specs.declared.literal.Literal.TheVariants.{Null, Number, Wide, Text}
+use Rattle.pk_values.specs.Words.{is_words}
+use Rattle.pk_syntax.specs.declared.declaration.ColumnDecl.{ColumnDecl}
+use Rattle.pk_syntax.specs.declared.literal.Literal.{Literal}
+use Rattle.pk_syntax.specs.declared.literal.Literal.TheVariants.{Null, Number, Wide, Text}
 use Rattle.pk_bind.specs.declared.literals.Check.{Check}
 use Rattle.pk_bind.specs.declared.literals.Check.TheVariants as checks
 
@@ -61,6 +62,19 @@ stored_fault checks.Kind c literal = kind_fault c literal
 stored_fault checks.Wide c literal = wide_fault literal
 stored_fault checks.Length c literal = long_fault c.name c.max literal
 stored_fault checks.Null c literal = null_fault c literal
+
+-- ---- values
+
+-- a text is words: UTF-8 of at most 255 bytes
+abbrev pub has_words : Literal → Bool
+has_words Null = true
+has_words (Number z) = true
+has_words Wide = true
+has_words (Text bytes) = is_words bytes
+
+-- no text of the column is longer than words may be
+abbrev pub keeps_words : ColumnDecl → Bool
+keeps_words c = nat_le c.max 255
 
 -- a literal as a value; a number outside 64 bits is refused, so that its value is never used
 abbrev pub stored_value : Literal → Value

@@ -4,11 +4,11 @@ use Rattle.std.specs.Option.{option_map}
 use Rattle.pk_values.specs.declared.refusal.Refusal.{Refusal}
 use Rattle.pk_values.specs.declared.refusal.Refusal.TheVariants.{ColumnTwice}
 use Rattle.pk_values.specs.Refusals.{or_else, first_by}
-use Rattle.pk_parse.specs.declared.declaration.ColumnDecl.{ColumnDecl}
-use Rattle.pk_parse.specs.declared.edit.SetPart.{SetPart}
-use Rattle.pk_parse.specs.declared.edit.Update.{Update}
-use Rattle.pk_parse.specs.declared.literal.Literal.{Literal}
-use Rattle.pk_parse.specs.Declarations.{twice}
+use Rattle.pk_syntax.specs.declared.declaration.ColumnDecl.{ColumnDecl}
+use Rattle.pk_syntax.specs.declared.edit.SetPart.{SetPart}
+use Rattle.pk_syntax.specs.declared.edit.Update.{Update}
+use Rattle.pk_syntax.specs.declared.literal.Literal.{Literal}
+use Rattle.pk_syntax.specs.Declarations.{twice}
 use Rattle.pk_schema.specs.Shapes.{Shape, column_named}
 use Rattle.pk_bind.specs.declared.edit.Edit.{Edit}
 use Rattle.pk_bind.specs.declared.edit.SetTo.{SetTo}

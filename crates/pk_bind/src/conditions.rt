@@ -1,13 +1,14 @@
 //! What conditions over the columns of a table ask of a row.
 
-ghost use Rattle.std.specs.Prelude.{◌≡◌, map, IfOk};
-ghost use Rattle.pk_bind.specs.Conditions.{op_of, side_of, cond_of, cond_asked};
+ghost use Rattle.std.specs.Prelude.{◌≡◌, map, IfOk, IsTrue};
+ghost use Rattle.std.specs.List.{list_all};
+ghost use Rattle.pk_bind.specs.Conditions.{op_of, side_of, cond_of, cond_asked, operand_has_words, test_has_words, cond_has_words};
 
 use crate::columns::column_at;
 use crate::literals::stored_value;
 use pk_logic::{self, Cond, Side};
-use pk_parse::{self, Operand, Test};
 use pk_schema::Schema;
+use pk_syntax::{self, Operand, Test};
 use pk_values::{Items, Memory};
 use sqlite_items::Boxed;
 use std::alloc::Global;
@@ -18,6 +19,7 @@ pub(crate) fn cond_asked(
     schema: &Schema,
     cond: &Option<Test>,
 ) -> Result<Option<Cond>, Memory>
+    requires { IsTrue (cond_has_words cond.now) }
     ensures { IfOk result (λ asked. asked ≡ cond_asked schema.now.columns cond.now) }
 {
     match cond {
@@ -28,6 +30,7 @@ pub(crate) fn cond_asked(
 
 #[cycle(binding)]
 fn cond_of(alloc: Global, schema: &Schema, test: &Test) -> Result<Cond, Memory>
+    requires { IsTrue (test_has_words test.now) }
     ensures { IfOk result (λ cond. cond ≡ cond_of schema.now.columns test.now) }
 {
     match test {
@@ -51,6 +54,7 @@ fn cond_of(alloc: Global, schema: &Schema, test: &Test) -> Result<Cond, Memory>
 
 #[cycle(binding)]
 fn conds_of(alloc: Global, schema: &Schema, members: &[Test]) -> Result<Items<Cond>, Memory>
+    requires { IsTrue (list_all (λ m. m) (map test_has_words members.now)) }
     ensures { IfOk result (λ conds. conds ≡ map (cond_of schema.now.columns) members.now) }
 {
     let mut conds = Vec::with_capacity(alloc, members.len())?;
@@ -60,20 +64,21 @@ fn conds_of(alloc: Global, schema: &Schema, members: &[Test]) -> Result<Items<Co
     Ok(Items::from_vec(conds))
 }
 
-fn op_of(op: pk_parse::Op) -> pk_logic::Op
+fn op_of(op: pk_syntax::Op) -> pk_logic::Op
     ensures { result ≡ op_of op }
 {
     match op {
-        pk_parse::Op::Equal => pk_logic::Op::Equal,
-        pk_parse::Op::Unequal => pk_logic::Op::Unequal,
-        pk_parse::Op::Less => pk_logic::Op::Less,
-        pk_parse::Op::AtMost => pk_logic::Op::AtMost,
-        pk_parse::Op::Greater => pk_logic::Op::Greater,
-        pk_parse::Op::AtLeast => pk_logic::Op::AtLeast,
+        pk_syntax::Op::Equal => pk_logic::Op::Equal,
+        pk_syntax::Op::Unequal => pk_logic::Op::Unequal,
+        pk_syntax::Op::Less => pk_logic::Op::Less,
+        pk_syntax::Op::AtMost => pk_logic::Op::AtMost,
+        pk_syntax::Op::Greater => pk_logic::Op::Greater,
+        pk_syntax::Op::AtLeast => pk_logic::Op::AtLeast,
     }
 }
 
 fn side_of(alloc: Global, schema: &Schema, with: &Operand) -> Result<Side, Memory>
+    requires { IsTrue (operand_has_words with.now) }
     ensures { IfOk result (λ side. side ≡ side_of schema.now.columns with.now) }
 {
     match with {

@@ -2,7 +2,7 @@
 
 ghost use Rattle.std.specs.Prelude.{◌≡◌, IfOk, IsTrue};
 ghost use Rattle.pk_values.specs.Refusals.{first_some};
-ghost use Rattle.pk_parse.specs.Given.{cond_has_utf8};
+ghost use Rattle.pk_syntax.specs.Given.{cond_has_utf8};
 ghost use Rattle.pk_bind.specs.Bound.{IsBound, IfReady};
 ghost use Rattle.pk_bind.specs.Conditions.{cond_asked};
 ghost use Rattle.pk_bind.specs.Delete.{delete_refusals};
@@ -12,8 +12,8 @@ use crate::bound::Bound;
 use crate::conditions::cond_asked;
 use crate::searching::cond_refusal;
 use pk_logic::Cond;
-use pk_parse::Delete;
 use pk_schema::Schema;
+use pk_syntax::Delete;
 use pk_values::{Memory, Refusal};
 use std::alloc::Global;
 

@@ -5,19 +5,20 @@ ghost use Rattle.std.specs.List.{list_all, filter_map, cons_option};
 ghost use Rattle.std.specs.Option.{option_copied};
 ghost use Rattle.pk_values.specs.declared.row.TheConstants.{MOST_COLUMNS};
 ghost use Rattle.pk_values.specs.Refusals.{first_some, first_by};
-ghost use Rattle.pk_parse.specs.Given.{has_utf8};
+ghost use Rattle.pk_syntax.specs.Given.{has_utf8};
 ghost use Rattle.pk_schema.specs.Admits.{Admits};
 ghost use Rattle.pk_schema.specs.Shapes.{column_named};
 ghost use Rattle.pk_bind.specs.Bound.{IsBound, IfReady};
 ghost use Rattle.pk_bind.specs.Columns.{no_column};
+ghost use Rattle.pk_bind.specs.Literals.{keeps_words};
 ghost use Rattle.pk_bind.specs.Insert.{targets, missing_target, target_twice, targets_refusals, tuples_refusals, insert_refusals, made_rows, new_rows};
 
 use crate::bound::Bound;
 use crate::columns::{missing_column, twice_refused};
 use crate::new_rows::made_rows;
 use crate::tuples::{long_row, tuples_refusal};
-use pk_parse::{Insert, Literal};
 use pk_schema::{Column, Schema, column_named, copied_column, twice};
+use pk_syntax::{Insert, Literal};
 use pk_values::{Items, Memory, Name, Refusal, Row};
 use std::alloc::Global;
 
@@ -37,6 +38,7 @@ pub fn bind_insert(
 
 #[tactic(auto, unfolding(crate::specs::Insert::insert_refusals))]
 fn bound_rows(alloc: Global, schema: &Schema, insert: &Insert) -> Result<Bound<Items<Row>>, Memory>
+    requires { IsTrue (list_all (list_all has_utf8) insert.now.rows) }
     ensures { IfOk result (λ b. IsBound (insert_refusals schema.now insert.now) (new_rows schema.now.columns insert.now) b) }
 {
     match targets_refusal(schema, insert)? {
@@ -51,6 +53,7 @@ fn from_targets(
     schema: &Schema,
     insert: &Insert,
 ) -> Result<Bound<Items<Row>>, Memory>
+    requires { IsTrue (list_all (list_all has_utf8) insert.now.rows) }
     ensures { IfOk result (λ b. let listed = targets schema.now.columns insert.now.columns in IsBound (tuples_refusals schema.now.columns listed insert.now.rows) (made_rows schema.now.columns listed insert.now.rows) b) }
 {
     let columns = schema.columns();
@@ -98,7 +101,9 @@ fn from_listed(
     names: &[Name],
     rows: &[Items<Literal>],
 ) -> Result<Bound<Items<Row>>, Memory>
-    requires { length columns.now ≤ MOST_COLUMNS }
+    requires few { length columns.now ≤ MOST_COLUMNS }
+    requires short { IsTrue (list_all keeps_words columns.now) }
+    requires texts { IsTrue (list_all (list_all has_utf8) rows.now) }
     ensures { IfOk result (λ b. let listed = filter_map (column_named columns.now) names.now in IsBound (tuples_refusals columns.now listed rows.now) (made_rows columns.now listed rows.now) b) }
 {
     let listed = listed_columns(alloc, columns, names)?;
@@ -134,7 +139,9 @@ fn from_tuples(
     listed: &[Column],
     rows: &[Items<Literal>],
 ) -> Result<Bound<Items<Row>>, Memory>
-    requires { length columns.now ≤ MOST_COLUMNS }
+    requires few { length columns.now ≤ MOST_COLUMNS }
+    requires short { IsTrue (list_all keeps_words listed.now) }
+    requires texts { IsTrue (list_all (list_all has_utf8) rows.now) }
     ensures { IfOk result (λ b. IsBound (tuples_refusals columns.now listed.now rows.now) (made_rows columns.now listed.now rows.now) b) }
 {
     if let Some(refusal) = tuples_refusal(columns, listed, rows)? {

@@ -33,7 +33,8 @@ pub use edges::{
 pub use edit::{Edit, SetTo};
 pub use insertion::bind_insert;
 pub use laws::{
-    conditions_are_judgeable, new_rows_are_admitted, set_rows_are_admitted, what_is_bound_fits,
+    as_many_rows_as_tuples, conditions_are_judgeable, literals_land_in_their_columns,
+    named_columns_are_found, new_rows_are_admitted, set_rows_are_admitted, what_is_bound_fits,
 };
 pub use selecting::bind_select;
 pub use selection::{OrderBy, Selection, Shown};

@@ -8,8 +8,8 @@ ghost use Rattle.pk_bind.specs.Conditions.{missing_in, unless_same_kind, kind_be
 
 use crate::columns::no_column;
 use crate::literals::{kind_fault, long_fault, unless_kind, wide_fault};
-use pk_parse::{Operand, Test};
 use pk_schema::{Column, column_named};
+use pk_syntax::{Operand, Test};
 use pk_values::{Memory, Name, Refusal};
 
 /// What is looked for in a condition.

@@ -3,9 +3,10 @@
 ghost use Rattle.std.specs.Prelude.{◌≡◌, length, map, IfOk, IsTrue};
 ghost use Rattle.std.specs.List.{range_with_len};
 ghost use Rattle.pk_values.specs.Refusals.{first_some};
-ghost use Rattle.pk_parse.specs.Given.{cond_has_utf8};
+ghost use Rattle.pk_syntax.specs.Given.{cond_has_utf8};
 ghost use Rattle.pk_bind.specs.Bound.{IsBound, IfReady};
 ghost use Rattle.pk_bind.specs.Columns.{column_at};
+ghost use Rattle.pk_bind.specs.Conditions.{cond_has_words};
 ghost use Rattle.pk_bind.specs.Fitting.{selection_fits};
 ghost use Rattle.pk_bind.specs.Select.{missing_shown, missing_order, missing_from, select_refusals, shown_of, order_of, selection_of};
 
@@ -14,8 +15,8 @@ use crate::columns::{column_at, missing_column, no_column};
 use crate::conditions::cond_asked;
 use crate::searching::{Search, cond_fault};
 use crate::selection::{OrderBy, Selection, Shown};
-use pk_parse::{OrderPart, Select, What};
 use pk_schema::{Column, Schema};
+use pk_syntax::{OrderPart, Select, What};
 use pk_values::{Items, Memory, Name, Refusal};
 use std::alloc::Global;
 
@@ -106,6 +107,7 @@ fn ready(alloc: Global, schema: &Schema, select: &Select) -> Result<Bound<Select
 
 #[tactic(auto, unfolding(crate::specs::Select::selection_of))]
 fn selection_of(alloc: Global, schema: &Schema, select: &Select) -> Result<Selection, Memory>
+    requires { IsTrue (cond_has_words select.now.cond) }
     ensures { IfOk result (λ selection. selection ≡ selection_of schema.now.columns select.now) }
 {
     Ok(Selection {

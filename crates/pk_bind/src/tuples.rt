@@ -1,15 +1,15 @@
 //! What the tuples of an INSERT are refused for.
 
-ghost use Rattle.std.specs.Prelude.{◌≡◌, ◌∷◌, [], length, IfOk};
+ghost use Rattle.std.specs.Prelude.{◌≡◌, ◌∷◌, [], length, is_none, IfOk};
 ghost use Rattle.std.specs.List.{find};
 ghost use Rattle.std.specs.Option.{option_copied, option_map};
 ghost use Rattle.pk_values.specs.Refusals.{first_some, first_by, or_else};
-ghost use Rattle.pk_parse.specs.declared.declaration.ColumnDecl.{ColumnDecl};
+ghost use Rattle.pk_syntax.specs.declared.declaration.ColumnDecl.{ColumnDecl};
 ghost use Rattle.pk_bind.specs.Insert.{miscounted, tuple_fault, is_left_null, null_value, literals_refusals, long_row};
 
-use crate::literals::{Check, stored_fault};
-use pk_parse::Literal;
+use crate::literals::{Check, passes, stored_fault};
 use pk_schema::{Column, column_place};
+use pk_syntax::Literal;
 use pk_values::{Items, Memory, Refusal, Row};
 
 // How many bytes a row has at most.
@@ -63,11 +63,26 @@ fn first_fault(
     ensures { IfOk result (λ r. r ≡ first_by (tuple_fault check listed.now) rows.now) }
 {
     for row in rows {
-        if let Some(refusal) = tuple_fault(check, listed, row.as_slice())? {
-            return Ok(Some(refusal));
+        if !tuple_passes(check, listed, row.as_slice()) {
+            return tuple_fault(check, listed, row.as_slice());
         }
     }
     Ok(None)
+}
+
+// Whether the check finds nothing in the tuple.
+fn tuple_passes(check: Check, listed: &[Column], row: &[Literal]) -> bool
+    ensures { result ≡ is_none (tuple_fault check listed.now row.now) }
+{
+    for (i, literal) in row.iter().enumerate() {
+        let Some(column) = listed.get(i) else {
+            return true;
+        };
+        if !passes(check, column, literal) {
+            return false;
+        }
+    }
+    true
 }
 
 fn tuple_fault(check: Check, listed: &[Column], row: &[Literal]) -> Result<Option<Refusal>, Memory>
@@ -94,8 +109,8 @@ fn first_null(
 {
     let left = left_null(columns, listed);
     for row in rows {
-        if let Some(refusal) = null_value(listed, left, row.as_slice())? {
-            return Ok(Some(refusal));
+        if left.is_some() || !tuple_passes(Check::Null, listed, row.as_slice()) {
+            return null_value(listed, left, row.as_slice());
         }
     }
     Ok(None)

@@ -4,11 +4,13 @@ ghost use Rattle.std.specs.Prelude.{◌≡◌, ◌&&◌, map, IfOk, IsTrue};
 ghost use Rattle.std.specs.List.{list_all};
 ghost use Rattle.std.specs.Option.{option_copied};
 ghost use Rattle.pk_values.specs.Refusals.{first_some, or_else, first_by};
-ghost use Rattle.pk_parse.specs.Given.{has_utf8, cond_has_utf8};
+ghost use Rattle.pk_syntax.specs.Given.{has_utf8, cond_has_utf8};
+ghost use Rattle.pk_schema.specs.Shapes.{IsShape};
 ghost use Rattle.pk_bind.specs.Bound.{IsBound, IfReady};
 ghost use Rattle.pk_bind.specs.Columns.{no_column};
-ghost use Rattle.pk_bind.specs.Conditions.{cond_fault};
+ghost use Rattle.pk_bind.specs.Conditions.{cond_fault, cond_has_words};
 ghost use Rattle.pk_bind.specs.Fitting.{edit_fits};
+ghost use Rattle.pk_bind.specs.Literals.{has_words};
 ghost use Rattle.pk_bind.specs.Update.{missing_from, set_twice, found_fault, set_fault, judged, update_refusals, set_of, edit_of};
 
 use crate::bound::Bound;
@@ -17,8 +19,8 @@ use crate::conditions::cond_asked;
 use crate::edit::{Edit, SetTo};
 use crate::literals::{Check, stored_fault, stored_value};
 use crate::searching::{Search, cond_fault};
-use pk_parse::{Literal, SetPart, Update};
 use pk_schema::{Column, Schema, column_named, twice};
+use pk_syntax::{Literal, SetPart, Update};
 use pk_values::{Items, Memory, Name, Refusal};
 use std::alloc::Global;
 
@@ -28,6 +30,7 @@ pub fn bind_update(alloc: Global, schema: &Schema, update: &Update) -> Result<Bo
     ensures bound { IfOk result (λ b. IsBound (update_refusals schema.now update.now) (edit_of schema.now.columns update.now) b) }
     ensures fits { IfOk result (λ b. IfReady b (λ edit. IsTrue (edit_fits schema.now.columns edit))) }
 {
+    let _columns = schema.columns();
     match update_refusal(alloc, schema, update)? {
         Some(refusal) => Ok(Bound::Refused(refusal)),
         None => ready(alloc, schema, update),
@@ -154,6 +157,7 @@ fn found_fault(
 // What is changed, where nothing is refused.
 fn ready(alloc: Global, schema: &Schema, update: &Update) -> Result<Bound<Edit>, Memory>
     requires texts { IsTrue (list_all (λ s. has_utf8 s.value) update.now.sets && cond_has_utf8 update.now.cond) }
+    requires shape { IsShape schema.now }
     requires unrefused { first_some (update_refusals schema.now update.now) ≡ None }
     ensures bound { IfOk result (λ b. IsBound (update_refusals schema.now update.now) (edit_of schema.now.columns update.now) b) }
     ensures fits { IfOk result (λ b. IfReady b (λ edit. IsTrue (edit_fits schema.now.columns edit))) }
@@ -163,6 +167,8 @@ fn ready(alloc: Global, schema: &Schema, update: &Update) -> Result<Bound<Edit>,
 
 #[tactic(auto, unfolding(crate::specs::Update::edit_of))]
 fn edit_of(alloc: Global, schema: &Schema, update: &Update) -> Result<Edit, Memory>
+    requires sets { IsTrue (list_all (λ s. has_words s.value) update.now.sets) }
+    requires cond { IsTrue (cond_has_words update.now.cond) }
     ensures { IfOk result (λ edit. edit ≡ edit_of schema.now.columns update.now) }
 {
     Ok(Edit {
@@ -173,6 +179,7 @@ fn edit_of(alloc: Global, schema: &Schema, update: &Update) -> Result<Edit, Memo
 
 // The columns by their places, and their new values.
 fn sets_of(alloc: Global, schema: &Schema, sets: &[SetPart]) -> Result<Items<SetTo>, Memory>
+    requires { IsTrue (list_all (λ s. has_words s.value) sets.now) }
     ensures { IfOk result (λ made. made ≡ map (set_of schema.now.columns) sets.now) }
 {
     let mut made = Vec::with_capacity(alloc, sets.len())?;
@@ -183,6 +190,7 @@ fn sets_of(alloc: Global, schema: &Schema, sets: &[SetPart]) -> Result<Items<Set
 }
 
 fn set_of(alloc: Global, schema: &Schema, set: &SetPart) -> Result<SetTo, Memory>
+    requires { IsTrue (has_words set.now.value) }
     ensures { IfOk result (λ made. made ≡ set_of schema.now.columns set.now) }
 {
     Ok(SetTo {

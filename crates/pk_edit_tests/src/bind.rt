@@ -3,7 +3,7 @@
 
 ghost use Rattle.std.specs.Prelude.{◌&&◌, IsTrue};
 ghost use Rattle.std.specs.List.{list_all};
-ghost use Rattle.pk_parse.specs.Given.{cond_has_utf8, has_utf8, texts_are_utf8};
+ghost use Rattle.pk_syntax.specs.Given.{cond_has_utf8, has_utf8, texts_are_utf8};
 
 use crate::scripts::{schema, statement};
 use crate::telling::{digit, tell_numbers, tell_row, tell_value};
@@ -11,8 +11,8 @@ use pk_bind::{
     Bound, Edit, OrderBy, Selection, Shown, bind_delete, bind_insert, bind_select, bind_update,
 };
 use pk_logic::Cond;
-use pk_parse::{Delete, Insert, Select, Statement, Update};
 use pk_schema::Schema;
+use pk_syntax::{Delete, Insert, Select, Statement, Update};
 use pk_values::{Items, Memory, Name, Refusal, Row};
 use std::alloc::Global;
 use std::test::Fail;

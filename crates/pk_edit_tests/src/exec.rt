@@ -2,7 +2,7 @@
 //! row (1, 0) under the id 1.
 
 ghost use Rattle.std.specs.Prelude.{◌≡◌, All, IfOk, IfSome, IsTrue};
-ghost use Rattle.pk_parse.specs.Given.{texts_are_utf8};
+ghost use Rattle.pk_syntax.specs.Given.{texts_are_utf8};
 ghost use Rattle.pk_schema.specs.Admits.{Admits};
 ghost use Rattle.pk_exec.specs.Rows.{AscendFrom};
 ghost use Rattle.pk_exec.specs.Seen.{Covers, Fits};
@@ -10,8 +10,8 @@ ghost use Rattle.pk_exec.specs.Seen.{Covers, Fits};
 use crate::scripts::{schema, statement};
 use crate::telling::{digit, tell_numbers, tell_row};
 use pk_exec::{ListView, Selected, Work};
-use pk_parse::Statement;
 use pk_schema::Schema;
+use pk_syntax::Statement;
 use pk_values::{Items, Memory, Placed, Row, Value};
 use std::alloc::Global;
 use std::test::Fail;
@@ -171,7 +171,7 @@ fn tell_put(text: &mut Vec<u8>, rows: &[Placed]) -> Result<(), Memory> {
 
 // ---- tests
 
-const CASES: [(&[u8], &[u8], &[u8]); 5] = [
+const CASES: [(&[u8], &[u8], &[u8]); 6] = [
     (
         b"UPDATE t SET b = 7 WHERE a = 1",
         b"SELECT * FROM t",
@@ -196,6 +196,12 @@ const CASES: [(&[u8], &[u8], &[u8]); 5] = [
         b"INSERT INTO t VALUES (2, NULL), (3, 5)",
         b"SELECT * FROM t ORDER BY b DESC",
         b"first 2; second 35 10 2-; size 2; tables 7; touched; gone; put 2 2-; put 3 35",
+    ),
+    // An empty row for each that is counted, behind a blank: one of the base and a new one. The null isn't.
+    (
+        b"INSERT INTO t VALUES (2, NULL), (3, 5)",
+        b"SELECT COUNT(*) FROM t WHERE b >= 0",
+        b"first 2; second  ; size 2; tables 7; touched; gone; put 2 2-; put 3 35",
     ),
 ];
 

@@ -1,12 +1,13 @@
 //! The statement of a script, and the schema of one.
 
 ghost use Rattle.std.specs.Prelude.{IfOk, IsTrue};
-ghost use Rattle.pk_parse.specs.Declarations.{is_plain};
-ghost use Rattle.pk_parse.specs.Given.{declares_plain, texts_are_utf8};
+ghost use Rattle.pk_syntax.specs.Declarations.{is_plain};
+ghost use Rattle.pk_syntax.specs.Given.{declares_plain, texts_are_utf8};
 
 use pk_lex::lex;
-use pk_parse::{Statement, TableDecl, parse};
+use pk_parse::parse;
 use pk_schema::Schema;
+use pk_syntax::{Statement, TableDecl};
 use std::alloc::Global;
 use std::test::Fail;
 

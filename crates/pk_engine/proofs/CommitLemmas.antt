@@ -1,12 +1,12 @@
 -- A commit of changes that entries make of one table.
-use Rattle.std.proofs.Common.{◌≡◌, ℕ, ◌+◌, ◌-◌, ◌^◌, ◌≤◌, ◌<◌, true, List, [], ◌∷◌, length, get_or, set, Some, None, Ok, Err, ap, refl, ◌∙◌, sym, subst, arith}
+use Rattle.std.proofs.Common.{◌≡◌, ℕ, ◌+◌, ◌-◌, ◌^◌, ◌≤◌, ◌<◌, true, List, [], ◌∷◌, length, get_or, set, Some, None, Ok, Err, IsTrue, ap, refl, ◌∙◌, sym, subst, arith}
 use Rattle.std.specs.Prelude.{min, nat_le, sum_by, filter, slice_get, insert}
 use Rattle.std.specs.List.{position, remove}
 use Rattle.std.proofs.lemmas.List.Sums.{sum_by-set, sum_by-remove}
 use Rattle.std.proofs.lemmas.Option.{get_or_from_slice_get, slice_get_within, slice_get-get_or}
 use Rattle.std.proofs.lemmas.List.Quantifiers.{position-Some}
 use Rattle.std.proofs.lemmas.Slice.Eq.{bytes_eq-Decides}
-use Rattle.pk_parse.specs.declared.declaration.TableDecl.{TableDecl}
+use Rattle.pk_syntax.specs.declared.declaration.TableDecl.{TableDecl}
 use Rattle.pk_schema.specs.Shapes.{Shape, IsShape, shape_of}
 use Rattle.pk_values.specs.declared.changes.Changes.{Changes}
 use Rattle.pk_values.specs.declared.placed.Placed.{Placed}
@@ -25,9 +25,10 @@ use Rattle.pk_engine.specs.Entries.{AreOf}
 use Rattle.pk_engine.specs.Limits.{most_tables, most_rows, most_ids, rows_full, ids_full, commits_full, limit_refusals}
 use Rattle.pk_engine.specs.Place.{IsPlaceOf}
 use Rattle.pk_guard.specs.Changed.{IdsAscend}
+use Rattle.pk_guard.specs.Laws.{KeysHoldWhereNothingBreaks}
 use Rattle.pk_engine.specs.State.{State, Made, Dropped, Changed, made_table, current, committed, with_commit}
 use Rattle.pk_engine.specs.Stands.{StandsFor}
-use Rattle.pk_engine.specs.Valid.{IsValidTable}
+use Rattle.pk_engine.specs.Valid.{is_table_name, IsValidTable}
 use Rattle.pk_engine.specs.declared.engine.Engine.{Engine}
 use Rattle.pk_engine.proofs.ListLemmas.{first_place}
 use Rattle.pk_engine.proofs.OrderLemmas.{blank, place_of_table}
@@ -152,18 +153,18 @@ has_room st t c free =
     record { rows = rows.0; ids = ids.0; commits = commits.0; keys = keys.0 }
 
 -- an engine that has changed the table at the place stands for the state with that commit
-pub changes_stand : (e n : Engine) (st : State) (place : ℕ) (t : Table) (c : Changes) (rows : ℕ) → StandsFor e st → slice_get e.tables.items place ≡ Some t → IsValidTable t → AreOf t c
+pub changes_stand : KeysHoldWhereNothingBreaks → (e n : Engine) (st : State) (place : ℕ) (t : Table) (c : Changes) (rows : ℕ) → StandsFor e st → slice_get e.tables.items place ≡ Some t → IsValidTable t → AreOf t c
     → first_some (change_refusals st t c) ≡ None → rows ≡ min (row_count (committed (current st) (Changed ((t.name, c) ∷ [])))) (2 ^ 64 - 1)
     → n.commit ≡ e.commit + 1 → n.tables.items ≡ set e.tables.items place (changed_by c t) → n.rows ≡ rows
     → StandsFor n (with_commit st (Changed ((t.name, c) ∷ [])))
-changes_stand e n st place t c rows stands is good of none sum commit tables count =
+changes_stand unbroken e n st place t c rows stands is good of none sum commit tables count =
     let room = has_room st t c none in
     let most = rows_within st t c room.rows in
     let there = ap (table_named t.name) (stands_tables e st stands) ∙ named_at t.name e.tables.items place t (found_at e st place t stands is) (sym (get_or_from_slice_get e.tables.items place t t is)) in
     commit_stands e n st (Changed ((t.name, c) ∷ [])) stands commit
     (tables ∙ sym (tables_changed e st place t c stands is))
     (count ∙ omega (arith, sum, most))
-    (changed_is_valid (current st) t c (stands_valid e st stands) there good of (ids_within t c room.ids) most (commits_within st room.commits) room.keys)
+    (changed_is_valid unbroken (current st) t c (stands_valid e st stands) there good of (ids_within t c room.ids) most (commits_within st room.commits) room.keys)
 
 -- ---- what changes are refused for
 
@@ -193,10 +194,10 @@ name_at name ts place t at is =
 -- ---- a table made
 
 pub made_stands : (e n : Engine) (st : State) (d : TableDecl) (s : Shape) (place : ℕ) (t : Table) → StandsFor e st → IsPlaceOf d.table e.tables.items (Err place)
-    → s ≡ shape_of d → IsShape s → length e.tables.items < most_tables → e.commit < most_ids → t ≡ made_table d.table s
+    → IsTrue (is_table_name d.table) → s ≡ shape_of d → IsShape s → length e.tables.items < most_tables → e.commit < most_ids → t ≡ made_table d.table s
     → n.commit ≡ e.commit + 1 → n.tables.items ≡ insert e.tables.items place t → n.rows ≡ e.rows
     → StandsFor n (with_commit st (Made d.table (shape_of d)))
-made_stands e n st d s place t stands free is shape few commits made commit tables rows =
+made_stands e n st d s place t stands free named is shape few commits made commit tables rows =
     let new = made_table d.table (shape_of d) in
     let same : t ≡ new = made ∙ ap (made_table d.table) is in
     let put : n.tables.items ≡ with_table new e.tables.items =
@@ -207,7 +208,7 @@ made_stands e n st d s place t stands free is shape few commits made commit tabl
     ap (λ (ts : List Table). sum_by (λ (u : Table). length u.rows) (with_table new ts)) (stands_tables e st stands) in
     commit_stands e n st (Made d.table (shape_of d)) stands commit put
     (omega (arith, rows, counted, old, after))
-    (made_is_valid (current st) d.table (shape_of d) (stands_valid e st stands) (subst IsShape is shape)
+    (made_is_valid (current st) d.table (shape_of d) (stands_valid e st stands) named (subst IsShape is shape)
     (ap (table_named d.table) (stands_tables e st stands) ∙ none_named d.table e.tables.items free.0)
     (rw (ap length (stands_tables e st stands)) few)
     (rw (stands_commit e st stands) commits))

@@ -13,8 +13,8 @@ use Rattle.pk_values.specs.declared.value.Value.{Value}
 use Rattle.pk_exec.specs.Rows.{ids_of}
 use Rattle.pk_exec.specs.Entries.{Entry, Kept, Touched, New, row_in, with_row as set_row, kept_entry}
 use Rattle.pk_exec.specs.Changes.{is_entry_of, gone_ids, touched_rows, added_rows, placed_from, changes_of}
-use Rattle.pk_engine.specs.Base.{Table, has_id, replaced_by, with_row, with_rows, changed_by}
-use Rattle.pk_guard.specs.Changed.{IdsAscend}
+use Rattle.pk_engine.specs.Base.{Table, replaced_by, with_row, with_rows, changed_by}
+use Rattle.pk_guard.specs.Changed.{IdsAscend, stays}
 use Rattle.pk_engine.specs.Rows.{IdsRise}
 use Rattle.pk_engine.specs.Entries.{AreNew, Follow, Ends, Goes, Stays, Turns, placed}
 use Rattle.pk_engine.proofs.RowLemmas.{other_id, other_above, kept_head, replaced_head, lower_rise}
@@ -42,7 +42,7 @@ abbrev has_entry : List Entry → ℕ → Bool
 has_entry es id = list_any (is_entry_of id) es
 
 -- an id goes where no entry has it, and it is one of the rows'
-gone_when : (es : List Entry) (rows : List Placed) (p : Placed) → has_id (gone_ids rows es) p ≡ (not (has_entry es p.id) && list_any (λ (id : ℕ). id == p.id) (ids_of rows))
+gone_when : (es : List Entry) (rows : List Placed) (p : Placed) → list_any (λ (id : ℕ). id == p.id) (gone_ids rows es) ≡ (not (has_entry es p.id) && list_any (λ (id : ℕ). id == p.id) (ids_of rows))
 unfolding gone_ids
 gone_when es rows p =
     any-filter_same (λ (id : ℕ). id == p.id) (λ (id : ℕ). not (has_entry es id)) (not (has_entry es p.id))
@@ -68,7 +68,7 @@ chosen : {X : Type 0} (b c : Bool) (x : X) (us vs : List X) → b ≡ c → us �
 chosen b c x us vs e f = rw (e, f) refl
 
 pub kept_by_entries : (es : List Entry) (whole rows : List Placed) → AreFound whole rows
-    → filter (λ (p : Placed). not (has_id (gone_ids whole es) p)) rows ≡ filter (λ (p : Placed). has_entry es p.id) rows
+    → filter (stays (gone_ids whole es)) rows ≡ filter (λ (p : Placed). has_entry es p.id) rows
 kept_by_entries es whole [] found = refl
 kept_by_entries es whole (p ∷ ps) found =
     chosen _ _ p _ _

@@ -1,23 +1,22 @@
 -- Every answer leaves a valid base.
-use Rattle.std.proofs.Common.{◌≡◌, ℕ, Bool, true, false, List, [], ◌∷◌, ◌++◌, Option, Some, None, IsTrue, if◌then◌else◌, refl, sym, subst, ap, ◌∙◌}
-use Rattle.std.specs.List.{AllByRecursion, list_all, flat_map}
-use Rattle.std.proofs.lemmas.Bool.{and_parts}
+use Rattle.std.proofs.Common.{◌≡◌, ℕ, Bool, true, false, not, ◌&&◌, length, arith, List, [], ◌∷◌, ◌++◌, Option, Some, None, IsTrue, if◌then◌else◌, refl, sym, subst, ap, ◌∙◌}
+use Rattle.std.specs.Prelude.{nat_le}
+use Rattle.std.specs.List.{AllByRecursion}
+use Rattle.std.proofs.lemmas.Bool.{and_parts, and_from, leb-true, le-leb}
 use Rattle.std.proofs.lemmas.List.Elements.{recursion_from_All}
-use Rattle.std.proofs.lemmas.List.Folds.{list_all-append}
 use Rattle.std.proofs.lemmas.Slice.Eq.{bytes_eq-Decides}
 use Rattle.pk_values.specs.Name.{is_name}
 use Rattle.pk_values.specs.Refusals.{first_some}
 use Rattle.pk_values.specs.declared.refusal.Refusal.{Refusal}
 use Rattle.pk_values.specs.declared.changes.Changes.{Changes}
-use Rattle.pk_parse.specs.declared.statement.Statement.{Statement}
-use Rattle.pk_parse.specs.declared.statement.Statement.TheVariants.{Create, Drop, Insert as InsertInto, Update, Delete, Select as SelectFrom, Show, Implies, Cover}
-use Rattle.pk_parse.specs.declared.declaration.TableDecl.{TableDecl}
-use Rattle.pk_parse.specs.declared.declaration.KeyText.{KeyText}
-use Rattle.pk_parse.specs.Declarations.{is_plain, names_of, names_in}
-use Rattle.pk_parse.specs.Given.{texts_are_utf8, declares_plain}
+use Rattle.pk_syntax.specs.declared.statement.Statement.TheVariants.{Create, Drop, Insert as InsertInto, Update, Delete, Select as SelectFrom, Show, Implies, Cover}
+use Rattle.pk_syntax.specs.declared.declaration.TableDecl.{TableDecl}
+use Rattle.pk_syntax.specs.Given.{IsGiven}
+use Rattle.pk_syntax.specs.Words.{is_reserved}
 use Rattle.pk_schema.specs.Making.{schema_refusals}
-use Rattle.pk_schema.specs.Shapes.{shape_of}
-use Rattle.pk_schema.proofs.ShapeLemmas.{made_shape}
+use Rattle.pk_schema.specs.Shapes.{is_plain_name, shape_of}
+use Rattle.pk_schema.specs.Laws.{DeclarationsMakeShapes}
+use Rattle.pk_guard.specs.Laws.{KeysHoldWhereNothingBreaks}
 use Rattle.pk_exec.specs.Entries.{Entry}
 use Rattle.pk_exec.specs.Refusals.{work_insert_refusals, work_update_refusals, work_delete_refusals}
 use Rattle.pk_bind.specs.Select.{select_refusals}
@@ -30,11 +29,11 @@ use Rattle.pk_engine.specs.Drop.{table_large, drop_refusals, dropped}
 use Rattle.pk_engine.specs.Edits.{changes_in, is_unchanged, change_refusals, commit_refusals, with_changes, entries_in, insert_entries, insert_refusals, inserted, update_entries, update_refusals, updated_rows, delete_refusals, deleted_rows, delete_entries}
 use Rattle.pk_engine.specs.Entries.{AreOf}
 use Rattle.pk_engine.specs.Select.{selected_rows}
-use Rattle.pk_engine.specs.Valid.{IsValid, IsValidTable, names_are_names}
+use Rattle.pk_engine.specs.Laws.{StatementsMakeEntries}
+use Rattle.pk_engine.specs.Valid.{is_table_name, IsValid, IsValidTable, AnswersKeepValid}
 use Rattle.pk_engine.specs.Reasoning.{implies_refusals, implied_told}
 use Rattle.pk_engine.specs.Answer.{answer}
 use Rattle.pk_engine.proofs.CommitLemmas.{has_room}
-use Rattle.pk_engine.proofs.EditLemmas.{insert_of, update_of, delete_of}
 use Rattle.pk_engine.proofs.LimitLemmas.{rows_within, ids_within, commits_within, tables_within}
 use Rattle.pk_engine.proofs.StandsLemmas.{current_more}
 use Rattle.pk_engine.proofs.ValidLemmas.{changed_is_valid, made_is_valid, dropped_is_valid}
@@ -94,20 +93,23 @@ none_exists st name none = go (table_of st name) none
     go (Some t) none = absurd cc
     go None none = refl
 
-column_names : (d : TableDecl) → list_all is_name (names_in d) ≡ true → list_all is_name (names_of d.columns) ≡ true
-column_names d all =
-    let behind = (and_parts (is_name d.table) (list_all is_name (names_of d.columns ++ flat_map (λ (k : KeyText). k.columns) d.keys)) all).1 in
-    (and_parts _ _ (sym (list_all-append is_name (names_of d.columns) (flat_map (λ (k : KeyText). k.columns) d.keys)) ∙ behind)).0
+-- a name that a schema's table may have is one that a table may have
+pub plain_named : (name : List ℕ) → IsTrue (is_plain_name name) → IsTrue (is_table_name name)
+plain_named name plain =
+    let parts = and_parts (is_name name && not (is_reserved name)) (nat_le (length name) 30) plain in
+    let short = leb-true (length name) 30 parts.1 in
+    and_from (is_name name && not (is_reserved name)) (nat_le (length name) 255) parts.0 (le-leb (length name) 255 (omega (arith, short)))
 
-created_valid : (st : State) (d : TableDecl) → IsTrue (is_plain d) → list_all is_name (names_in d) ≡ true → IsValid (current st) → first_some (create_refusals st d) ≡ None
+created_valid : DeclarationsMakeShapes → (st : State) (d : TableDecl) → IsGiven (Create d) → IsValid (current st) → first_some (create_refusals st d) ≡ None
     → IsValid (current (created st d).next)
-created_valid st d plain names valid free =
+created_valid makes st d is_given valid free =
     let a = head_free (table_exists st d.table) _ free in
     let b = front_free (schema_refusals d) (tables_full st ∷ commits_full st ∷ []) a.1 in
     let c = head_free (tables_full st) _ b.1 in
     let e = head_free (commits_full st) [] c.1 in
+    let made = makes d is_given.plain is_given.names b.0 in
     subst IsValid (sym (current_more st (Made d.table (shape_of d))))
-    (made_is_valid (current st) d.table (shape_of d) valid (made_shape d plain b.0 (column_names d names)) (none_exists st d.table a.0) (tables_within st c.0) (commits_within st e.0))
+    (made_is_valid (current st) d.table (shape_of d) valid (plain_named d.table made.0) made.1 (none_exists st d.table a.0) (tables_within st c.0) (commits_within st e.0))
 
 -- ---- DROP TABLE
 
@@ -119,46 +121,46 @@ dropped_valid st t valid free =
 
 -- ---- INSERT, UPDATE and DELETE
 
-changed_valid : (st : State) (t : Table) (c : Changes) → IsValid (current st) → IsValidTable t → table_of st t.name ≡ Some t → AreOf t c → first_some (commit_refusals st t c) ≡ None
+changed_valid : KeysHoldWhereNothingBreaks → (st : State) (t : Table) (c : Changes) → IsValid (current st) → IsValidTable t → table_of st t.name ≡ Some t → AreOf t c → first_some (commit_refusals st t c) ≡ None
     → IsValid (current (with_changes st t c))
-changed_valid st t c valid good there of free = go (is_unchanged c) free
+changed_valid unbroken st t c valid good there of free = go (is_unchanged c) free
   where
     go : (b : Bool) → first_some (if b then [] else change_refusals st t c) ≡ None → IsValid (current (if b then st else with_commit st (Changed ((t.name, c) ∷ []))))
     go true free = valid
     go false free =
         let room = has_room st t c free in
         subst IsValid (sym (current_more st (Changed ((t.name, c) ∷ []))))
-        (changed_is_valid (current st) t c valid there good of (ids_within t c room.ids) (rows_within st t c room.rows) (commits_within st room.commits) room.keys)
+        (changed_is_valid unbroken (current st) t c valid there good of (ids_within t c room.ids) (rows_within st t c room.rows) (commits_within st room.commits) room.keys)
 
-edit_valid : (st : State) (name : List ℕ) (t : Table) (rs : List (Option Refusal)) (es : List Entry) → IsValid (current st) → table_of st name ≡ Some t
+edit_valid : KeysHoldWhereNothingBreaks → (st : State) (name : List ℕ) (t : Table) (rs : List (Option Refusal)) (es : List Entry) → IsValid (current st) → table_of st name ≡ Some t
     → (IsValidTable t → first_some rs ≡ None → AreOf t (changes_in t es)) → first_some (rs ++ commit_refusals st t (changes_in t es)) ≡ None
     → IsValid (current (with_changes st t (changes_in t es)))
-edit_valid st name t rs es valid found of free =
+edit_valid unbroken st name t rs es valid found of free =
     let good = found_valid st name t valid found in
     let parts = front_free rs (commit_refusals st t (changes_in t es)) free in
-    changed_valid st t (changes_in t es) valid good (found_named st name t found) (of good parts.0) parts.1
+    changed_valid unbroken st t (changes_in t es) valid good (found_named st name t found) (of good parts.0) parts.1
 
 -- ---- every statement
 
-pub answer_valid : (st : State) (s : Statement) → IsTrue (declares_plain s) → IsTrue (texts_are_utf8 s) → IsTrue (names_are_names s) → IsValid (current st) → IsValid (current (answer st s).next)
+pub answer_valid : KeysHoldWhereNothingBreaks → DeclarationsMakeShapes → StatementsMakeEntries → AnswersKeepValid
 unfolding answer
-answer_valid st (Create d) plain texts names valid =
-    decided_keeps (λ x. IsValid (current x)) st (create_refusals st d) (created st d) valid (created_valid st d plain names valid)
-answer_valid st (Drop name) plain texts names valid =
+answer_valid unbroken makes entries st (Create d) is_given valid =
+    decided_keeps (λ x. IsValid (current x)) st (create_refusals st d) (created st d) valid (created_valid makes st d is_given valid)
+answer_valid unbroken makes entries st (Drop name) is_given valid =
     about_keeps (λ x. IsValid (current x)) st name _ valid (λ t found. decided_keeps (λ x. IsValid (current x)) st (drop_refusals st t) (dropped st t) valid (dropped_valid st t valid))
-answer_valid st (InsertInto i) plain texts names valid =
+answer_valid unbroken makes entries st (InsertInto i) is_given valid =
     about_keeps (λ x. IsValid (current x)) st i.table _ valid (λ t found. decided_keeps (λ x. IsValid (current x)) st (insert_refusals st t i) (inserted st t i) valid
-    (edit_valid st i.table t (work_insert_refusals t.shape 0 i) (insert_entries t i) valid found (λ good free. insert_of t i good texts free)))
-answer_valid st (Update u) plain texts names valid =
+    (edit_valid unbroken st i.table t (work_insert_refusals t.shape 0 i) (insert_entries t i) valid found (λ good free. (entries t good).inserts i is_given free)))
+answer_valid unbroken makes entries st (Update u) is_given valid =
     about_keeps (λ x. IsValid (current x)) st u.table _ valid (λ t found. decided_keeps (λ x. IsValid (current x)) st (update_refusals st t u) (updated_rows st t u) valid
-    (edit_valid st u.table t (work_update_refusals t.shape 0 t.rows (entries_in t) u) (update_entries t u) valid found (λ good free. update_of t u good texts free)))
-answer_valid st (Delete d) plain texts names valid =
+    (edit_valid unbroken st u.table t (work_update_refusals t.shape 0 t.rows (entries_in t) u) (update_entries t u) valid found (λ good free. (entries t good).updates u is_given free)))
+answer_valid unbroken makes entries st (Delete d) is_given valid =
     about_keeps (λ x. IsValid (current x)) st d.table _ valid (λ t found. decided_keeps (λ x. IsValid (current x)) st (delete_refusals st t d) (deleted_rows st t d) valid
-    (edit_valid st d.table t (work_delete_refusals t.shape 0 t.rows (entries_in t) d) (delete_entries t d) valid found (λ good free. delete_of t d good)))
-answer_valid st (SelectFrom s) plain texts names valid =
+    (edit_valid unbroken st d.table t (work_delete_refusals t.shape 0 t.rows (entries_in t) d) (delete_entries t d) valid found (λ good free. (entries t good).deletes d)))
+answer_valid unbroken makes entries st (SelectFrom s) is_given valid =
     about_keeps (λ x. IsValid (current x)) st s.table _ valid (λ t found. decided_keeps (λ x. IsValid (current x)) st (select_refusals t.shape s) (selected_rows st t s) valid (λ free. valid))
-answer_valid st (Show name) plain texts names valid = about_keeps (λ x. IsValid (current x)) st name _ valid (λ t found. valid)
-answer_valid st (Implies name k) plain texts names valid =
+answer_valid unbroken makes entries st (Show name) is_given valid = about_keeps (λ x. IsValid (current x)) st name _ valid (λ t found. valid)
+answer_valid unbroken makes entries st (Implies name k) is_given valid =
     about_keeps (λ x. IsValid (current x)) st name _ valid (λ t found. decided_keeps (λ x. IsValid (current x)) st (implies_refusals t k) (implied_told st t k) valid (λ free. valid))
-answer_valid st (Cover name) plain texts names valid = about_keeps (λ x. IsValid (current x)) st name _ valid (λ t found. valid)
-answer_valid st _ plain texts names valid = valid
+answer_valid unbroken makes entries st (Cover name) is_given valid = about_keeps (λ x. IsValid (current x)) st name _ valid (λ t found. valid)
+answer_valid unbroken makes entries st _ is_given valid = valid

@@ -2,28 +2,31 @@
 use Rattle.std.proofs.Common.{◌≡◌, ◌≢◌, ℕ, zero, suc, ◌+◌, ◌<◌, Bool, true, false, not, List, [], ◌∷◌, ◌++◌, length, map, Some, if◌then◌else◌, refl, sym, subst, ap, ◌∙◌, arith}
 use Rattle.std.specs.Prelude.{filter, cond, slice_set}
 use Rattle.std.specs.List.{AllByRecursion}
+use Rattle.std.proofs.lemmas.List.{length-map}
 use Rattle.std.proofs.lemmas.List.Elements.{recursion_from_All, All-from_recursion}
 use Rattle.std.proofs.lemmas.Slice.Eq.{bytes_eq-Decides}
 use Rattle.pk_values.specs.declared.changes.Changes.{Changes}
 use Rattle.pk_values.specs.declared.placed.Placed.{Placed}
 use Rattle.pk_values.specs.declared.value.Value.{Value}
 use Rattle.pk_values.specs.Values.{value_at}
-use Rattle.pk_parse.specs.declared.edit.Insert.{Insert}
-use Rattle.pk_parse.specs.declared.edit.Update.{Update}
-use Rattle.pk_parse.specs.declared.edit.Delete.{Delete}
+use Rattle.pk_syntax.specs.declared.declaration.ColumnDecl.{ColumnDecl}
+use Rattle.pk_syntax.specs.declared.edit.Insert.{Insert}
+use Rattle.pk_syntax.specs.declared.edit.Update.{Update}
+use Rattle.pk_syntax.specs.declared.edit.Delete.{Delete}
 use Rattle.pk_report.specs.declared.reply.Reply.{Reply}
 use Rattle.pk_report.specs.declared.reply.Reply.TheVariants as replies
 use Rattle.pk_bind.specs.declared.edit.Edit.{Edit}
 use Rattle.pk_bind.specs.declared.edit.SetTo.{SetTo}
 use Rattle.pk_bind.specs.Conditions.{cond_asked}
 use Rattle.pk_bind.specs.Fitting.{with_sets}
-use Rattle.pk_bind.specs.Insert.{new_rows}
+use Rattle.pk_bind.specs.Insert.{new_rows, made_row, sources, targets}
 use Rattle.pk_bind.specs.Update.{edit_of}
 use Rattle.pk_exec.specs.Entries.{Entry, New, row_in, with_row, kept_entry}
 use Rattle.pk_exec.specs.Edits.{takes, taken, updated_entry}
 use Rattle.pk_exec.specs.Changes.{added_rows, placed_from}
 use Rattle.pk_exec.specs.Rows.{ids_of}
-use Rattle.pk_engine.specs.Base.{Table, is_named, table_named, change_table, changed_by, with_rows, without_rows, has_id}
+use Rattle.pk_guard.specs.Changed.{stays}
+use Rattle.pk_engine.specs.Base.{Table, is_named, table_named, change_table, changed_by, with_rows, without_rows}
 use Rattle.pk_engine.specs.State.{State, Changed, current, with_commit}
 use Rattle.pk_engine.specs.Refusing.{Step, table_of}
 use Rattle.pk_engine.specs.Edits.{entries_in, changes_in, is_unchanged, with_changes, edited, insert_refusals, inserted, insert_entries, update_refusals, updated_rows, update_entries, delete_refusals, deleted_rows, delete_entries}
@@ -35,7 +38,6 @@ use Rattle.pk_engine.proofs.EntryLemmas.{entries_committed, follow_kept, follow_
 use Rattle.pk_engine.proofs.KeptLemmas.{found_valid, found_name, found_named}
 use Rattle.pk_engine.proofs.OtherLemmas.{about_says, tables_more, named}
 use Rattle.pk_engine.proofs.RowLemmas.{changed_is_same}
-use Rattle.pk_exec.proofs.InsertLemmas.{rows_counted}
 
 -- ---- entries committed
 
@@ -53,7 +55,7 @@ found_changed name c (u ∷ us) t found = go (is_named name u) refl found (found
         ap (λ b. if b then Some (changed_by c u) else table_named name us) still ∙ ap (λ (v : Table). Some (changed_by c v)) same
     go false is found rest = ap (λ b. if b then Some u else table_named name (change_table name c us)) is ∙ rest found
 
-none_gone : (ps : List Placed) → filter (λ (p : Placed). not (has_id [] p)) ps ≡ ps
+none_gone : (ps : List Placed) → filter (stays []) ps ≡ ps
 none_gone [] = refl
 none_gone (p ∷ ps) = ap (λ rest. p ∷ rest) (none_gone ps)
 
@@ -117,6 +119,11 @@ new_are (p ∷ ps) news = new_are ps news
 
 counted_inserted : (m n : ℕ) → replies.Inserted m ≡ replies.Inserted n → m ≡ n
 counted_inserted m n e = cc
+
+-- as many rows as tuples
+rows_counted : (columns : List ColumnDecl) (i : Insert) → length (new_rows columns i) ≡ length i.rows
+unfolding new_rows
+rows_counted columns i = length-map i.rows (made_row (sources columns (targets columns i.columns)))
 
 insert_turns : (st : State) (i : Insert) (n : ℕ) (t : Table) (step : Step) → IsValid (current st) → table_of st i.table ≡ Some t → step ≡ inserted st t i → step.reply ≡ replies.Inserted n
     → (n ≡ length i.rows) × Turns st step i.table (λ old new. HasAdded (new_rows old.shape.columns i) n old new)

@@ -181,7 +181,7 @@ added_hold P (New r ∷ es) next all = (all.0, added_hold P es (next + 1) all.1)
 
 pub put_admitted : (t : Table) (c : Changes) → AreOf t c → All (λ p. Admits t.shape p.row) c.put
 put_admitted t c of =
-    let all = recursion_from_All (λ (e : Entry). Admits t.shape (row_in e)) of.0 of.2 in
+    let all = recursion_from_All (λ (e : Entry). Admits t.shape (row_in e)) of.0 (λ i e within. (of.2 i e within).0) in
     subst (λ (d : Changes). All (λ (p : Placed). Admits t.shape p.row) d.put) (sym of.3)
     (All-from_recursion (λ (p : Placed). Admits t.shape p.row) _
     (both_hold (λ (p : Placed). Admits t.shape p.row) _ _ (touched_hold (Admits t.shape) of.0 all) (added_hold (Admits t.shape) of.0 t.next all)))

@@ -1,5 +1,5 @@
 -- Rows in the order of their ids, and tables whose rows are changed.
-use Rattle.std.proofs.Common.{◌≡◌, ℕ, zero, ◌+◌, ◌≤◌, ◌<◌, Bool, true, false, not, ◌==◌, List, [], ◌∷◌, ◌++◌, length, map, set, get_or, Result, Ok, Err, refl, sym, ◌∙◌, ap, arith, if◌then◌else◌, suc, subst, inl, inr}
+use Rattle.std.proofs.Common.{◌≡◌, ℕ, zero, ◌+◌, ◌≤◌, ◌<◌, Bool, true, false, ◌==◌, List, [], ◌∷◌, ◌++◌, length, map, set, get_or, Result, Ok, Err, refl, sym, ◌∙◌, ap, arith, if◌then◌else◌, suc, subst, inl, inr}
 use Rattle.std.specs.Prelude.{filter, nat_lt, cond}
 use Rattle.std.specs.List.Sorted.{IsBinarySearchResult, IsNonDecreasingBy}
 use Rattle.std.specs.Ordering.{nat_cmp, ordering_index}
@@ -7,11 +7,11 @@ use Rattle.std.proofs.lemmas.Bool.{cases_lt, eqb-true, ltb-false}
 use Rattle.pk_values.specs.declared.placed.Placed.{Placed}
 use Rattle.pk_values.specs.declared.changes.Changes.{Changes}
 use Rattle.pk_exec.specs.Rows.{AscendFrom}
-use Rattle.pk_guard.proofs.IdLemmas.{equal_numbers, greater_numbers, index_least}
-use Rattle.pk_engine.specs.Base.{Table, has_id, replaced_by, with_row, with_rows, without_rows, changed_by}
+use Rattle.pk_guard.specs.Changed.{stays}
+use Rattle.pk_engine.specs.Base.{Table, replaced_by, with_row, with_rows, without_rows, changed_by}
 use Rattle.pk_engine.specs.Rows.{IdsRise}
 use Rattle.pk_values.proofs.NumberLemmas.{less_numbers}
-use Rattle.pk_exec.proofs.ListLemmas.{rise_at}
+use Rattle.pk_values.proofs.SearchLemmas.{equal_numbers, greater_numbers, index_least}
 
 -- ---- what changes of rows leave
 
@@ -44,6 +44,11 @@ rise_ascends least next (p ∷ ps) rise = (rise.0, rise_ascends (p.id + 1) next 
 
 pub blank_row : Placed
 blank_row = record { id = 0; row = [] }
+
+rise_at : (least : ℕ) (ps : List Placed) (j : ℕ) (d : Placed) → AscendFrom least ps → j < length ps → least ≤ (get_or ps j d).id
+rise_at least [] j d ascend within = absurd (omega (arith, within))
+rise_at least (p ∷ ps) zero d ascend within = ascend.0
+rise_at least (p ∷ ps) (suc j) d ascend within = omega (arith, ascend.0, rise_at (p.id + 1) ps j d ascend.1 (omega (arith, within)))
 
 ids_rise : (least : ℕ) (rows : List Placed) (i j : ℕ) (d : Placed) → AscendFrom least rows → i < j → j < length rows → (get_or rows i d).id < (get_or rows j d).id
 ids_rise least [] i j d ascend lt within = absurd (omega (arith, within))
@@ -131,7 +136,7 @@ replaced_none p (r ∷ rs) none =
 -- ---- rows that are taken out
 
 -- where no id is given nothing is taken out
-pub none_out : (ids : List ℕ) (rows : List Placed) → length ids ≡ 0 → rows ≡ filter (λ (p : Placed). not (has_id ids p)) rows
+pub none_out : (ids : List ℕ) (rows : List Placed) → length ids ≡ 0 → rows ≡ filter (stays ids) rows
 none_out [] [] none = refl
 none_out [] (p ∷ ps) none = ap (λ (rest : List Placed). p ∷ rest) (none_out [] ps none)
 none_out (k ∷ ks) rows none = absurd (omega (arith, none))

@@ -19,12 +19,12 @@ use Rattle.pk_values.specs.declared.value.Value.{Value}
 use Rattle.pk_values.specs.declared.value.Value.TheVariants.{Null}
 use Rattle.pk_values.specs.Refusals.{first_some, first_by}
 use Rattle.pk_values.specs.Values.{value_at}
-use Rattle.pk_parse.specs.declared.declaration.ColumnDecl.{ColumnDecl}
-use Rattle.pk_parse.specs.declared.query.Select.{Select}
-use Rattle.pk_parse.specs.declared.query.What.{What}
-use Rattle.pk_parse.specs.declared.query.What.TheVariants as whats
-use Rattle.pk_parse.specs.declared.statement.Statement.TheVariants as statements
-use Rattle.pk_parse.specs.Declarations.{names_of}
+use Rattle.pk_syntax.specs.declared.declaration.ColumnDecl.{ColumnDecl}
+use Rattle.pk_syntax.specs.declared.query.Select.{Select}
+use Rattle.pk_syntax.specs.declared.query.What.{What}
+use Rattle.pk_syntax.specs.declared.query.What.TheVariants as whats
+use Rattle.pk_syntax.specs.declared.statement.Statement.TheVariants as statements
+use Rattle.pk_syntax.specs.Declarations.{names_of}
 use Rattle.pk_report.specs.declared.reply.Reply.{Reply}
 use Rattle.pk_report.specs.declared.reply.Reply.TheVariants as replies
 use Rattle.pk_schema.specs.Admits.{Admits}
@@ -33,11 +33,12 @@ use Rattle.pk_bind.specs.declared.selection.OrderBy.{OrderBy}
 use Rattle.pk_bind.specs.Columns.{no_column, column_at}
 use Rattle.pk_bind.specs.Conditions.{cond_asked}
 use Rattle.pk_bind.specs.Select.{select_refusals, missing_shown, missing_from, shown_of, selection_of}
-use Rattle.pk_bind.proofs.FoundLemmas.{column_found}
-use Rattle.pk_bind.proofs.HeldLemmas.{admits_held}
 use Rattle.pk_exec.specs.Entries.{row_in, kept_entry}
 use Rattle.pk_exec.specs.Edits.{takes}
 use Rattle.pk_exec.specs.Selecting.{row_cmp, put_in_order, sorted_by, values_at, name_of, shown, selected}
+use Rattle.pk_schema.specs.Laws.{AdmittedRowsFit}
+use Rattle.pk_bind.specs.Laws.{NamedColumnsAreFound}
+use Rattle.pk_exec.specs.Laws.{OrdersAreTotal}
 use Rattle.pk_engine.specs.Base.{Table}
 use Rattle.pk_engine.specs.State.{State}
 use Rattle.pk_engine.specs.Refusing.{Step, about, about_found, decided, refused_or, table_of}
@@ -48,7 +49,6 @@ use Rattle.pk_engine.proofs.KeptLemmas.{found_valid}
 use Rattle.pk_engine.proofs.OtherLemmas.{about_says}
 use Rattle.pk_values.proofs.RefusalLemmas.{head_free, neither}
 use Rattle.pk_values.proofs.ListLemmas.{map_same}
-use Rattle.pk_exec.proofs.OrderLemmas.{row_total}
 
 -- ---- how two rows stand is a total order
 
@@ -88,96 +88,97 @@ from_gt Less gt = absurd cc
 from_gt Equal gt = absurd cc
 from_gt Greater gt = refl
 
-above_all : (order : List OrderBy) (row r : List Value) (rs : List (List Value)) → is_gt (row_cmp order row r) ≡ false → AllByRecursion (λ x. is_gt (row_cmp order r x) ≡ false) rs
-    → AllByRecursion (λ x. is_gt (row_cmp order row x) ≡ false) rs
-above_all order row r [] below all = tt
-above_all order row r (x ∷ xs) below all = (upto (row_total order) row r x below all.0, above_all order row r xs below all.1)
+module _ (total : OrdersAreTotal) where
+  above_all : (order : List OrderBy) (row r : List Value) (rs : List (List Value)) → is_gt (row_cmp order row r) ≡ false → AllByRecursion (λ x. is_gt (row_cmp order r x) ≡ false) rs
+      → AllByRecursion (λ x. is_gt (row_cmp order row x) ≡ false) rs
+  above_all order row r [] below all = tt
+  above_all order row r (x ∷ xs) below all = (upto (total order) row r x below all.0, above_all order row r xs below all.1)
 
-put_rises : (order : List OrderBy) (row : List Value) (rows : List (List Value)) → Rises order rows → Rises order (put_in_order order row rows)
-put_rises order row [] rise = (tt, tt)
-put_rises order row (r ∷ rs) rise = go (is_gt (row_cmp order row r)) refl (put_rises order row rs rise.1)
-  where
-    go : (b : Bool) → is_gt (row_cmp order row r) ≡ b → Rises order (put_in_order order row rs) → Rises order (if b then r ∷ put_in_order order row rs else row ∷ r ∷ rs)
-    go true is rest =
-        let under : is_gt (row_cmp order r row) ≡ false = ap is_gt ((row_total order).antisymm r row) ∙ from_gt (row_cmp order row r) is in
-        (put_all (λ x. is_gt (row_cmp order r x) ≡ false) order row rs under rise.0, rest)
-    go false is rest = ((is, above_all order row r rs is rise.0), rise)
+  put_rises : (order : List OrderBy) (row : List Value) (rows : List (List Value)) → Rises order rows → Rises order (put_in_order order row rows)
+  put_rises order row [] rise = (tt, tt)
+  put_rises order row (r ∷ rs) rise = go (is_gt (row_cmp order row r)) refl (put_rises order row rs rise.1)
+    where
+      go : (b : Bool) → is_gt (row_cmp order row r) ≡ b → Rises order (put_in_order order row rs) → Rises order (if b then r ∷ put_in_order order row rs else row ∷ r ∷ rs)
+      go true is rest =
+          let under : is_gt (row_cmp order r row) ≡ false = ap is_gt ((total order).antisymm r row) ∙ from_gt (row_cmp order row r) is in
+          (put_all (λ x. is_gt (row_cmp order r x) ≡ false) order row rs under rise.0, rest)
+      go false is rest = ((is, above_all order row r rs is rise.0), rise)
 
-sorted_rises : (order : List OrderBy) (rows : List (List Value)) → Rises order (sorted_by order rows)
-unfolding sorted_by
-sorted_rises order [] = tt
-sorted_rises order (row ∷ rows) = put_rises order row (sorted_by order rows) (sorted_rises order rows)
+  sorted_rises : (order : List OrderBy) (rows : List (List Value)) → Rises order (sorted_by order rows)
+  unfolding sorted_by
+  sorted_rises order [] = tt
+  sorted_rises order (row ∷ rows) = put_rises order row (sorted_by order rows) (sorted_rises order rows)
 
-lt_of_turned : (o : Ordering) → is_lt (ordering_reverse o) ≡ is_gt o
-lt_of_turned Less = refl
-lt_of_turned Equal = refl
-lt_of_turned Greater = refl
+  lt_of_turned : (o : Ordering) → is_lt (ordering_reverse o) ≡ is_gt o
+  lt_of_turned Less = refl
+  lt_of_turned Equal = refl
+  lt_of_turned Greater = refl
 
--- the first comes before the second as far as the second comes behind the first
-lt_is_gt : (order : List OrderBy) (a b : List Value) → is_lt (row_cmp order a b) ≡ is_gt (row_cmp order b a)
-lt_is_gt order a b = ap is_lt ((row_total order).antisymm a b) ∙ lt_of_turned (row_cmp order b a)
+  -- the first comes before the second as far as the second comes behind the first
+  lt_is_gt : (order : List OrderBy) (a b : List Value) → is_lt (row_cmp order a b) ≡ is_gt (row_cmp order b a)
+  lt_is_gt order a b = ap is_lt ((total order).antisymm a b) ∙ lt_of_turned (row_cmp order b a)
 
-neighbours : (order : List OrderBy) (rows : List (List Value)) → Rises order rows → (k : ℕ) (d : List Value) → suc k < length rows
-    → is_lt (row_cmp order (get_or rows (suc k) d) (get_or rows k d)) ≡ false
-neighbours order [] rise k d within = absurd (omega (arith, within))
-neighbours order (r ∷ []) rise k d within = absurd (omega (arith, within))
-neighbours order (r ∷ x ∷ xs) rise zero d within = lt_is_gt order x r ∙ rise.0.0
-neighbours order (r ∷ x ∷ xs) rise (suc k) d within = neighbours order (x ∷ xs) rise.1 k d (omega (arith, within))
+  neighbours : (order : List OrderBy) (rows : List (List Value)) → Rises order rows → (k : ℕ) (d : List Value) → suc k < length rows
+      → is_lt (row_cmp order (get_or rows (suc k) d) (get_or rows k d)) ≡ false
+  neighbours order [] rise k d within = absurd (omega (arith, within))
+  neighbours order (r ∷ []) rise k d within = absurd (omega (arith, within))
+  neighbours order (r ∷ x ∷ xs) rise zero d within = lt_is_gt order x r ∙ rise.0.0
+  neighbours order (r ∷ x ∷ xs) rise (suc k) d within = neighbours order (x ∷ xs) rise.1 k d (omega (arith, within))
 
-next_to : (order : List OrderBy) (rows : List (List Value)) → Rises order rows → (k : ℕ) (d : List Value) → k + 1 < length rows
-    → is_lt (row_cmp order (get_or rows (k + 1) d) (get_or rows k d)) ≡ false
-next_to order rows rise k d within =
-    let one_more : k + 1 ≡ suc k = omega arith in
-    ap (λ i. is_lt (row_cmp order (get_or rows i d) (get_or rows k d))) one_more ∙ neighbours order rows rise k d (omega (arith, within))
+  next_to : (order : List OrderBy) (rows : List (List Value)) → Rises order rows → (k : ℕ) (d : List Value) → k + 1 < length rows
+      → is_lt (row_cmp order (get_or rows (k + 1) d) (get_or rows k d)) ≡ false
+  next_to order rows rise k d within =
+      let one_more : k + 1 ≡ suc k = omega arith in
+      ap (λ i. is_lt (row_cmp order (get_or rows i d) (get_or rows k d))) one_more ∙ neighbours order rows rise k d (omega (arith, within))
 
--- ---- rows that tie
+  -- ---- rows that tie
 
--- two rows that tie with one aren't behind each other
-tied_rows : (order : List OrderBy) (x a b : List Value) → ties (λ u v. is_lt (row_cmp order u v)) x a ≡ true → ties (λ u v. is_lt (row_cmp order u v)) x b ≡ true
-    → is_gt (row_cmp order a b) ≡ false
-tied_rows order x a b with_a with_b =
-    let one = and_parts (not (is_lt (row_cmp order x a))) (not (is_lt (row_cmp order a x))) with_a in
-    let two = and_parts (not (is_lt (row_cmp order x b))) (not (is_lt (row_cmp order b x))) with_b in
-    upto (row_total order) a x b (sym (lt_is_gt order x a) ∙ not-true _ one.0) (sym (lt_is_gt order b x) ∙ not-true _ two.1)
+  -- two rows that tie with one aren't behind each other
+  tied_rows : (order : List OrderBy) (x a b : List Value) → ties (λ u v. is_lt (row_cmp order u v)) x a ≡ true → ties (λ u v. is_lt (row_cmp order u v)) x b ≡ true
+      → is_gt (row_cmp order a b) ≡ false
+  tied_rows order x a b with_a with_b =
+      let one = and_parts (not (is_lt (row_cmp order x a))) (not (is_lt (row_cmp order a x))) with_a in
+      let two = and_parts (not (is_lt (row_cmp order x b))) (not (is_lt (row_cmp order b x))) with_b in
+      upto (total order) a x b (sym (lt_is_gt order x a) ∙ not-true _ one.0) (sym (lt_is_gt order b x) ∙ not-true _ two.1)
 
-exchanged : (a b : Bool) (x y : List Value) (rest : List (List Value)) → (a ≡ true → b ≡ true → ⊥)
-    → cond b (y ∷ cond a (x ∷ rest) rest) (cond a (x ∷ rest) rest) ≡ cond a (x ∷ cond b (y ∷ rest) rest) (cond b (y ∷ rest) rest)
-exchanged true true x y rest never = absurd (never refl refl)
-exchanged true false x y rest never = refl
-exchanged false true x y rest never = refl
-exchanged false false x y rest never = refl
+  exchanged : (a b : Bool) (x y : List Value) (rest : List (List Value)) → (a ≡ true → b ≡ true → ⊥)
+      → cond b (y ∷ cond a (x ∷ rest) rest) (cond a (x ∷ rest) rest) ≡ cond a (x ∷ cond b (y ∷ rest) rest) (cond b (y ∷ rest) rest)
+  exchanged true true x y rest never = absurd (never refl refl)
+  exchanged true false x y rest never = refl
+  exchanged false true x y rest never = refl
+  exchanged false false x y rest never = refl
 
-put_stable : (order : List OrderBy) (x row : List Value) (rows : List (List Value))
-    → filter (ties (λ u v. is_lt (row_cmp order u v)) x) (put_in_order order row rows) ≡ filter (ties (λ u v. is_lt (row_cmp order u v)) x) (row ∷ rows)
-put_stable order x row [] = refl
-put_stable order x row (r ∷ rs) = go (is_gt (row_cmp order row r)) refl (put_stable order x row rs)
-  where
-    go : (b : Bool) → is_gt (row_cmp order row r) ≡ b
-        → filter (ties (λ u v. is_lt (row_cmp order u v)) x) (put_in_order order row rs) ≡ filter (ties (λ u v. is_lt (row_cmp order u v)) x) (row ∷ rs)
-        → filter (ties (λ u v. is_lt (row_cmp order u v)) x) (if b then r ∷ put_in_order order row rs else row ∷ r ∷ rs)
-        ≡ filter (ties (λ u v. is_lt (row_cmp order u v)) x) (row ∷ r ∷ rs)
-    go true is rest =
-        ap (λ us. cond (ties (λ u v. is_lt (row_cmp order u v)) x r) (r ∷ us) us) rest
-        ∙ exchanged (ties (λ u v. is_lt (row_cmp order u v)) x row) (ties (λ u v. is_lt (row_cmp order u v)) x r) row r (filter (ties (λ u v. is_lt (row_cmp order u v)) x) rs)
-        (λ a b. differ (tied_rows order x row r a b) is)
-      where
-        differ : {b : Bool} → b ≡ false → b ≡ true → ⊥
-        differ no_one yes_one = cc
-    go false is rest = refl
+  put_stable : (order : List OrderBy) (x row : List Value) (rows : List (List Value))
+      → filter (ties (λ u v. is_lt (row_cmp order u v)) x) (put_in_order order row rows) ≡ filter (ties (λ u v. is_lt (row_cmp order u v)) x) (row ∷ rows)
+  put_stable order x row [] = refl
+  put_stable order x row (r ∷ rs) = go (is_gt (row_cmp order row r)) refl (put_stable order x row rs)
+    where
+      go : (b : Bool) → is_gt (row_cmp order row r) ≡ b
+          → filter (ties (λ u v. is_lt (row_cmp order u v)) x) (put_in_order order row rs) ≡ filter (ties (λ u v. is_lt (row_cmp order u v)) x) (row ∷ rs)
+          → filter (ties (λ u v. is_lt (row_cmp order u v)) x) (if b then r ∷ put_in_order order row rs else row ∷ r ∷ rs)
+          ≡ filter (ties (λ u v. is_lt (row_cmp order u v)) x) (row ∷ r ∷ rs)
+      go true is rest =
+          ap (λ us. cond (ties (λ u v. is_lt (row_cmp order u v)) x r) (r ∷ us) us) rest
+          ∙ exchanged (ties (λ u v. is_lt (row_cmp order u v)) x row) (ties (λ u v. is_lt (row_cmp order u v)) x r) row r (filter (ties (λ u v. is_lt (row_cmp order u v)) x) rs)
+          (λ a b. differ (tied_rows order x row r a b) is)
+        where
+          differ : {b : Bool} → b ≡ false → b ≡ true → ⊥
+          differ no_one yes_one = cc
+      go false is rest = refl
 
-sorted_stable : (order : List OrderBy) (rows : List (List Value)) (x : List Value)
-    → filter (ties (λ u v. is_lt (row_cmp order u v)) x) (sorted_by order rows) ≡ filter (ties (λ u v. is_lt (row_cmp order u v)) x) rows
-unfolding sorted_by
-sorted_stable order [] x = refl
-sorted_stable order (row ∷ rows) x =
-    put_stable order x row (sorted_by order rows) ∙ ap (λ us. cond (ties (λ u v. is_lt (row_cmp order u v)) x row) (row ∷ us) us) (sorted_stable order rows x)
+  sorted_stable : (order : List OrderBy) (rows : List (List Value)) (x : List Value)
+      → filter (ties (λ u v. is_lt (row_cmp order u v)) x) (sorted_by order rows) ≡ filter (ties (λ u v. is_lt (row_cmp order u v)) x) rows
+  unfolding sorted_by
+  sorted_stable order [] x = refl
+  sorted_stable order (row ∷ rows) x =
+      put_stable order x row (sorted_by order rows) ∙ ap (λ us. cond (ties (λ u v. is_lt (row_cmp order u v)) x row) (row ∷ us) us) (sorted_stable order rows x)
 
-pub put_in_order_rows : RowsArePutInOrder
-put_in_order_rows order rows = record {
-  same = sorted_moves order rows;
-  sorted = λ k d least within. next_to order (sorted_by order rows) (sorted_rises order rows) k d within;
-  stable = λ x. sorted_stable order rows x;
-}
+  pub put_in_order_rows : RowsArePutInOrder
+  put_in_order_rows order rows = record {
+    same = sorted_moves order rows;
+    sorted = λ k d least within. next_to order (sorted_by order rows) (sorted_rises order rows) k d within;
+    stable = λ x. sorted_stable order rows x;
+  }
 
 -- ---- what is told
 
@@ -224,32 +225,32 @@ found_passes p (d ∷ ds) c is = go (p d) refl is (found_passes p ds c)
     go false fails is rest = rest is
 
 -- the name at the place of a column is its own
-named_again : (columns : List ColumnDecl) (table name : List ℕ) → no_column columns table name ≡ None → name_of (names_of columns) (column_at columns name) ≡ name
+named_again : NamedColumnsAreFound → (columns : List ColumnDecl) (table name : List ℕ) → no_column columns table name ≡ None → name_of (names_of columns) (column_at columns name) ≡ name
 unfolding column_named
-named_again columns table name free =
-    let w = column_found columns table name free in
+named_again found_at columns table name free =
+    let w = found_at columns table name free in
     let own : w.0.name ≡ name = (bytes_eq-Decides w.0.name name).0 (found_passes (is_column name) columns w.0 w.1) in
     ap (λ o. unwrap_or o []) (slice_get-map (λ (c : ColumnDecl). c.name) columns (column_at columns name) ∙ ap (option_map (λ (c : ColumnDecl). c.name)) w.2) ∙ own
 
-header_is : (columns : List ColumnDecl) (table : List ℕ) (names : List (List ℕ)) → first_by (no_column columns table) names ≡ None
+header_is : NamedColumnsAreFound → (columns : List ColumnDecl) (table : List ℕ) (names : List (List ℕ)) → first_by (no_column columns table) names ≡ None
     → map (name_of (names_of columns)) (map (column_at columns) names) ≡ names
-header_is columns table [] free = refl
-header_is columns table (name ∷ names) free =
+header_is found_at columns table [] free = refl
+header_is found_at columns table (name ∷ names) free =
     let w = neither (no_column columns table name) _ free in
-    rw (named_again columns table name w.0, header_is columns table names w.1) refl
+    rw (named_again found_at columns table name w.0, header_is found_at columns table names w.1) refl
 
 none_missing : (t : Table) (s : Select) → first_some (select_refusals t.shape s) ≡ None → missing_shown t.shape.columns s.table s.what ≡ None
 unfolding select_refusals
 none_missing t s free = (neither (missing_shown t.shape.columns s.table s.what) _ (head_free (missing_from t.shape.columns s) _ free).0).0
 
-pub selects_tell : SelectsTellTheirRows
-selects_tell st s t names there free what =
+pub selects_tell : NamedColumnsAreFound → SelectsTellTheirRows
+selects_tell found_at st s t names there free what =
     let columns = t.shape.columns in
     let rows = sorted_by (order_asked t s) (rows_met t s) in
     let known : first_by (no_column columns s.table) names ≡ None = subst (λ w. missing_shown columns s.table w ≡ None) what (none_missing t s free) in
     select_says st s t there free
     ∙ ap (λ w. told_of t s w (rows_met t s)) what
-    ∙ ap (λ header. replies.Selected header (map (values_at (map (column_at columns) names)) rows)) (header_is columns s.table names known)
+    ∙ ap (λ header. replies.Selected header (map (values_at (map (column_at columns) names)) rows)) (header_is found_at columns s.table names known)
     ∙ ap (replies.Selected names) (map_same (values_at (map (column_at columns) names)) (values_under columns names) (λ row. map_both (value_at row) (column_at columns) names) rows)
 
 -- ---- SELECT *
@@ -296,22 +297,22 @@ unfolding sorted_by
 sorted_wide n order [] wide = tt
 sorted_wide n order (row ∷ rows) wide = put_all (λ r. length r ≡ n) order row (sorted_by order rows) wide.0 (sorted_wide n order rows wide.1)
 
-met_wide : (s : Shape) (meets : List Value → Bool) (rows : List Placed) → AllByRecursion (λ (p : Placed). Admits s p.row) rows
+met_wide : AdmittedRowsFit → (s : Shape) (meets : List Value → Bool) (rows : List Placed) → AllByRecursion (λ (p : Placed). Admits s p.row) rows
     → AreWide (length s.columns) (filter meets (map (λ (p : Placed). p.row) rows))
-met_wide s meets [] all = tt
-met_wide s meets (p ∷ ps) all = go (meets p.row) (met_wide s meets ps all.1)
+met_wide fit s meets [] all = tt
+met_wide fit s meets (p ∷ ps) all = go (meets p.row) (met_wide fit s meets ps all.1)
   where
     go : (b : Bool) → AreWide (length s.columns) (filter meets (map (λ (p : Placed). p.row) ps))
         → AreWide (length s.columns) (cond b (p.row ∷ filter meets (map (λ (p : Placed). p.row) ps)) (filter meets (map (λ (p : Placed). p.row) ps)))
-    go true rest = ((admits_held s p.row all.0).0, rest)
+    go true rest = (((fit s p.row).0 all.0).width, rest)
     go false rest = rest
 
-pub whole_told : WholeRowsAreTold
-whole_told st s t valid there free what =
+pub whole_told : AdmittedRowsFit → WholeRowsAreTold
+whole_told fit st s t valid there free what =
     let columns = t.shape.columns in
     let rows = sorted_by (order_asked t s) (rows_met t s) in
     let good = found_valid st s.table t valid there in
-    let wide = met_wide t.shape (takes (cond_asked columns s.cond)) t.rows (recursion_from_All (λ (p : Placed). Admits t.shape p.row) t.rows good.rows) in
+    let wide = met_wide fit t.shape (takes (cond_asked columns s.cond)) t.rows (recursion_from_All (λ (p : Placed). Admits t.shape p.row) t.rows good.rows) in
     select_says st s t there free
     ∙ ap (λ w. told_of t s w (rows_met t s)) what
     ∙ ap (λ header. replies.Selected header (map (values_at (range_with_len 0 (length columns))) rows)) (whole_header columns)

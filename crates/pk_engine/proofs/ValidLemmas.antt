@@ -1,5 +1,5 @@
 -- Bases stay valid.
-use Rattle.std.proofs.Common.{◌≡◌, ℕ, ◌+◌, ◌≤◌, ◌<◌, Bool, true, false, List, [], ◌∷◌, Some, None, length, if◌then◌else◌, refl, suc, subst, ap, take, drop, arith, ◌∙◌, sym}
+use Rattle.std.proofs.Common.{◌≡◌, ℕ, ◌+◌, ◌≤◌, ◌<◌, Bool, true, false, List, [], ◌∷◌, Some, None, length, if◌then◌else◌, refl, suc, subst, ap, take, drop, get_or, IsTrue, arith, ◌∙◌, sym}
 use Rattle.std.specs.Prelude.{sum_by}
 use Rattle.std.specs.List.{All, AllByRecursion, position_or_len}
 use Rattle.std.specs.List.Sorted.{IsStrictlySortedBy}
@@ -7,16 +7,20 @@ use Rattle.std.proofs.lemmas.List.Elements.{All-nil, All-cons, All-append, All-t
 use Rattle.std.proofs.lemmas.List.Sums.{sum_by-insert, sum_by-cons}
 use Rattle.pk_values.specs.declared.placed.Placed.{Placed}
 use Rattle.pk_values.specs.declared.changes.Changes.{Changes}
+use Rattle.pk_values.specs.declared.value.Value.{Value}
+use Rattle.pk_values.specs.Values.{IsStorable}
 use Rattle.pk_schema.specs.Shapes.{Shape, IsShape}
 use Rattle.pk_schema.specs.Admits.{Admits}
 use Rattle.pk_exec.specs.Entries.{Entry, row_in}
 use Rattle.pk_exec.specs.Changes.{added_rows}
+use Rattle.pk_guard.specs.Laws.{KeysHoldWhereNothingBreaks}
 use Rattle.pk_engine.specs.Base.{Base, Table, empty_base, is_named, comes_before, table_named, with_table, without_table, changed_by, change_table, row_count}
-use Rattle.pk_engine.specs.Entries.{placed, AreOf}
+use Rattle.pk_engine.specs.Entries.{placed, MayBeKept, AreOf}
 use Rattle.pk_engine.specs.State.{Made, Dropped, Changed, made_table, committed}
 use Rattle.pk_engine.specs.Keys.{key_broken}
+use Rattle.pk_engine.specs.Rows.{IdsRise}
 use Rattle.pk_engine.specs.Limits.{most_tables, most_rows, most_ids}
-use Rattle.pk_engine.specs.Valid.{IsValidTable, IsValid}
+use Rattle.pk_engine.specs.Valid.{is_table_name, IsValidTable, IsValid}
 use Rattle.pk_engine.proofs.OrderLemmas.{order_with, order_changed, order_without}
 use Rattle.pk_engine.proofs.TableLemmas.{with_table_place}
 use Rattle.pk_engine.proofs.KeyLemmas.{no_rows_hold, unbroken_hold}
@@ -28,9 +32,16 @@ pub empty_base_valid : IsValid empty_base
 unfolding IsStrictlySortedBy
 empty_base_valid = record { names = tt; tables = All-nil IsValidTable; few_tables = omega arith; few_rows = omega arith; few_commits = omega arith }
 
-made_valid : (name : List ℕ) (s : Shape) → IsShape s → IsValidTable (made_table name s)
-made_valid name s shape =
-    record { shape = shape; ids = omega arith; rows = All-nil (λ (p : Placed). Admits s p.row); next = omega arith; keys = no_rows_hold s shape }
+made_valid : (name : List ℕ) (s : Shape) → IsTrue (is_table_name name) → IsShape s → IsValidTable (made_table name s)
+made_valid name s named shape = record {
+  named = named;
+  shape = shape;
+  ids = omega arith;
+  rows = All-nil (λ (p : Placed). Admits s p.row);
+  values = All-nil (λ (p : Placed). All IsStorable p.row);
+  next = omega arith;
+  keys = no_rows_hold s;
+}
 
 tables_with : (t : Table) (ts : List Table) → IsValidTable t → All IsValidTable ts → All IsValidTable (with_table t ts)
 tables_with t ts valid all =
@@ -54,11 +65,11 @@ rows_with_table t ts =
     omega (arith, counted, is)
 
 -- a base is valid with one table more, where there is room
-pub made_is_valid : (b : Base) (name : List ℕ) (s : Shape) → IsValid b → IsShape s → table_named name b.tables ≡ None → length b.tables < most_tables → b.commit < most_ids
+pub made_is_valid : (b : Base) (name : List ℕ) (s : Shape) → IsValid b → IsTrue (is_table_name name) → IsShape s → table_named name b.tables ≡ None → length b.tables < most_tables → b.commit < most_ids
     → IsValid (committed b (Made name s))
-made_is_valid b name s valid shape new room commits = record {
+made_is_valid b name s valid named shape new room commits = record {
   names = order_with (made_table name s) b.tables valid.names new;
-  tables = tables_with (made_table name s) b.tables (made_valid name s shape) valid.tables;
+  tables = tables_with (made_table name s) b.tables (made_valid name s named shape) valid.tables;
   few_tables = (let n = length-with_table (made_table name s) b.tables in omega (arith, n, room));
   few_rows = (let n = rows_with_table (made_table name s) b.tables in let old = valid.few_rows in omega (arith, n, old));
   few_commits = omega (arith, commits);
@@ -114,10 +125,22 @@ made_by t es = record t { next = t.next + length (added_rows es); rows = placed 
 made_is : (t : Table) (c : Changes) → IsValidTable t → (of : AreOf t c) → changed_by c t ≡ made_by t of.0
 made_is t c valid of = ap (λ (d : Changes). changed_by d t) of.3 ∙ entries_committed t of.0 valid.ids of.1
 
-made_admitted : (t : Table) (es : List Entry) → All (λ (e : Entry). Admits t.shape (row_in e)) es → All (λ (p : Placed). Admits t.shape p.row) (placed t.next es)
-made_admitted t es all =
-    All-from_recursion (λ (p : Placed). Admits t.shape p.row) (placed t.next es)
-    (entries_hold (Admits t.shape) es t.next (recursion_from_All (λ (e : Entry). Admits t.shape (row_in e)) es all))
+-- the rows of the entries have what each row of a table that may be kept has
+made_have : (P : List Value → Type 0) (t : Table) (es : List Entry) → ((row : List Value) → MayBeKept t.shape row → P row)
+    → All (λ (e : Entry). MayBeKept t.shape (row_in e)) es → All (λ (p : Placed). P p.row) (placed t.next es)
+made_have P t es has all = λ i p within. has (get_or (placed t.next es) i p).row (kept i p within)
+  where
+    kept : All (λ (p : Placed). MayBeKept t.shape p.row) (placed t.next es)
+    kept =
+        All-from_recursion (λ (p : Placed). MayBeKept t.shape p.row) (placed t.next es)
+        (entries_hold (MayBeKept t.shape) es t.next (recursion_from_All (λ (e : Entry). MayBeKept t.shape (row_in e)) es all))
+
+made_admitted : (t : Table) (es : List Entry) → All (λ (e : Entry). MayBeKept t.shape (row_in e)) es → All (λ (p : Placed). Admits t.shape p.row) (placed t.next es)
+made_admitted t es all = made_have (Admits t.shape) t es (λ row kept. kept.0) all
+
+-- ids rise after such changes
+pub changed_rise : (t : Table) (c : Changes) → IsValidTable t → AreOf t c → IdsRise 1 (changed_by c t).rows (changed_by c t).next
+changed_rise t c valid of = subst (λ (u : Table). IdsRise 1 u.rows u.next) (sym (made_is t c valid of)) (entries_rise t.rows of.0 1 t.next of.1 valid.ids)
 
 -- the schema of a table after such changes, and that it admits the rows
 pub changed_admitted : (t : Table) (c : Changes) → IsValidTable t → AreOf t c → IsShape (changed_by c t).shape × All (λ (p : Placed). Admits (changed_by c t).shape p.row) (changed_by c t).rows
@@ -125,16 +148,18 @@ changed_admitted t c valid of =
     subst (λ (u : Table). IsShape u.shape × All (λ (p : Placed). Admits u.shape p.row) u.rows) (sym (made_is t c valid of)) (valid.shape, made_admitted t of.0 of.2)
 
 -- a table is valid after changes that entries make of it, where its ids have room and no key is broken
-pub changed_table_valid : (t : Table) (c : Changes) → IsValidTable t → AreOf t c → (changed_by c t).next ≤ most_ids → key_broken (changed_by c t) ≡ None → IsValidTable (changed_by c t)
-changed_table_valid t c valid of room free =
+pub changed_table_valid : KeysHoldWhereNothingBreaks → (t : Table) (c : Changes) → IsValidTable t → AreOf t c → (changed_by c t).next ≤ most_ids → key_broken (changed_by c t) ≡ None → IsValidTable (changed_by c t)
+changed_table_valid unbroken t c valid of room free =
     let es = of.0 in
     let is = made_is t c valid of in
     subst IsValidTable (sym is) record {
+      named = valid.named;
       shape = valid.shape;
       ids = entries_rise t.rows es 1 t.next of.1 valid.ids;
       rows = made_admitted t es of.2;
+      values = made_have (All IsStorable) t es (λ row kept. kept.1) of.2;
       next = subst (λ (u : Table). u.next ≤ most_ids) is room;
-      keys = unbroken_hold (made_by t es) valid.shape (made_admitted t es of.2) (subst (λ (u : Table). key_broken u ≡ None) is free);
+      keys = unbroken_hold unbroken (made_by t es) valid.shape (made_admitted t es of.2) (subst (λ (u : Table). key_broken u ≡ None) is free);
     }
 
 changed_all : (P : Table → Type 0) (name : List ℕ) (c : Changes) (ts : List Table) → AllByRecursion P ts → ((t : Table) → table_named name ts ≡ Some t → P t → P (changed_by c t))
@@ -157,12 +182,12 @@ length-change_table name c (t ∷ ts) = elim (is_named name t) as (λ b. length 
 ]
 
 -- a base is valid after changes of one table, where the limits have room and no key is broken
-pub changed_is_valid : (b : Base) (t : Table) (c : Changes) → IsValid b → table_named t.name b.tables ≡ Some t → IsValidTable t → AreOf t c → (changed_by c t).next ≤ most_ids
+pub changed_is_valid : KeysHoldWhereNothingBreaks → (b : Base) (t : Table) (c : Changes) → IsValid b → table_named t.name b.tables ≡ Some t → IsValidTable t → AreOf t c → (changed_by c t).next ≤ most_ids
     → row_count (committed b (Changed ((t.name, c) ∷ []))) ≤ most_rows → b.commit < most_ids → key_broken (changed_by c t) ≡ None → IsValid (committed b (Changed ((t.name, c) ∷ [])))
-changed_is_valid b t c valid there good of ids rows commits keys = record {
+changed_is_valid unbroken b t c valid there good of ids rows commits keys = record {
   names = order_changed t.name c b.tables valid.names;
   tables = All-from_recursion IsValidTable (change_table t.name c b.tables) (changed_all IsValidTable t.name c b.tables (recursion_from_All IsValidTable b.tables valid.tables)
-      (λ u found kept. subst (λ (v : Table). IsValidTable (changed_by c v)) (same_some t u (sym there ∙ found)) (changed_table_valid t c good of ids keys)));
+      (λ u found kept. subst (λ (v : Table). IsValidTable (changed_by c v)) (same_some t u (sym there ∙ found)) (changed_table_valid unbroken t c good of ids keys)));
   few_tables = rw (length-change_table t.name c b.tables) valid.few_tables;
   few_rows = rows;
   few_commits = omega (arith, commits);

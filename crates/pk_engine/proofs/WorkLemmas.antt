@@ -4,10 +4,10 @@ use Rattle.pk_values.specs.declared.memory.Memory.{Memory}
 use Rattle.pk_values.specs.declared.placed.Placed.{Placed}
 use Rattle.pk_values.specs.declared.refusal.Refusal.{Refusal}
 use Rattle.pk_values.specs.Refusals.{first_some}
-use Rattle.pk_parse.specs.declared.edit.Update.{Update}
-use Rattle.pk_parse.specs.declared.edit.Delete.{Delete}
-use Rattle.pk_parse.specs.declared.query.Select.{Select}
-use Rattle.pk_parse.specs.Declarations.{names_of}
+use Rattle.pk_syntax.specs.declared.edit.Update.{Update}
+use Rattle.pk_syntax.specs.declared.edit.Delete.{Delete}
+use Rattle.pk_syntax.specs.declared.query.Select.{Select}
+use Rattle.pk_syntax.specs.Declarations.{names_of}
 use Rattle.pk_schema.specs.Shapes.{Shape}
 use Rattle.pk_bind.specs.Update.{edit_of}
 use Rattle.pk_bind.specs.Conditions.{cond_asked}
@@ -17,11 +17,10 @@ use Rattle.pk_exec.specs.declared.exec_err.ExecErr.{ExecErr}
 use Rattle.pk_exec.specs.Edits.{updated, deleted, taken}
 use Rattle.pk_exec.specs.Selecting.{selected}
 use Rattle.pk_exec.specs.Rows.{AscendFrom}
-use Rattle.pk_exec.specs.Entries.{Entry}
-use Rattle.pk_exec.specs.Works.{Edits, no_edits, work_size, size_elsewhere}
-use Rattle.pk_exec.specs.Seen.{entries_of, Covers, Fits}
+use Rattle.pk_exec.specs.Entries.{Entry, kept_entries}
+use Rattle.pk_exec.specs.Works.{Edits, size_elsewhere}
+use Rattle.pk_exec.specs.Seen.{entries_of}
 use Rattle.pk_exec.specs.Refusals.{work_update_refusals, work_delete_refusals}
-use Rattle.pk_exec.proofs.FreshLemmas.{fresh_entries, fresh_covers, fresh_fits, fresh_elsewhere, fresh_size}
 use Rattle.pk_engine.specs.declared.outcome.Outcome.{Outcome}
 use Rattle.pk_engine.specs.declared.outcome.Outcome.TheVariants.{Done}
 use Rattle.pk_engine.specs.declared.table.editing.TheConstants.{TABLE}
@@ -38,20 +37,15 @@ valid_ascends t valid = rise_ascends 1 t.next t.rows valid.ids
 
 -- ---- a work without edits
 
-pub new_fits : (s : Shape) (w : Edits) → w ≡ no_edits → Fits w s TABLE
-new_fits s w is = subst (λ (v : Edits). Fits v s TABLE) (sym is) (fresh_fits s TABLE)
+-- it sees the rows as they are, and nothing is changed anywhere
+abbrev pub IsNew : Edits → Type 0
+IsNew w = ((table : ℕ) (rows : List Placed) → entries_of w table rows ≡ kept_entries rows) × ((table : ℕ) → size_elsewhere w table ≡ 0)
 
-pub new_covers : (rows : List Placed) (w : Edits) → w ≡ no_edits → Covers w TABLE rows
-new_covers rows w is = subst (λ (v : Edits). Covers v TABLE rows) (sym is) (fresh_covers TABLE rows)
+new_entries : (t : Table) (w : Edits) → IsNew w → entries_of w TABLE t.rows ≡ entries_in t
+new_entries t w is = is.0 TABLE t.rows
 
-pub new_entries : (t : Table) (w : Edits) → w ≡ no_edits → entries_of w TABLE t.rows ≡ entries_in t
-new_entries t w is = ap (λ (v : Edits). entries_of v TABLE t.rows) is ∙ fresh_entries TABLE t.rows
-
-pub new_elsewhere : (w : Edits) → w ≡ no_edits → size_elsewhere w TABLE ≡ 0
-new_elsewhere w is = ap (λ (v : Edits). size_elsewhere v TABLE) is ∙ fresh_elsewhere TABLE
-
-pub new_size : (w : Edits) → w ≡ no_edits → work_size w ≡ 0
-new_size w is = ap work_size is ∙ fresh_size
+new_elsewhere : (w : Edits) → IsNew w → size_elsewhere w TABLE ≡ 0
+new_elsewhere w is = is.1 TABLE
 
 -- ---- what it comes to
 
@@ -67,7 +61,7 @@ work_settled rs n es t m seen r free counted same made = if_ok r made (λ o is. 
 
 -- ---- UPDATE and DELETE over all rows of the table
 
-pub update_refusals_are : (t : Table) (s : Shape) (rows : List Placed) (w : Edits) (u : Update) → s ≡ t.shape → rows ≡ t.rows → w ≡ no_edits
+pub update_refusals_are : (t : Table) (s : Shape) (rows : List Placed) (w : Edits) (u : Update) → s ≡ t.shape → rows ≡ t.rows → IsNew w
     → work_update_refusals s (size_elsewhere w TABLE) rows (entries_of w TABLE rows) u ≡ work_update_refusals t.shape 0 t.rows (entries_in t) u
 update_refusals_are t s rows w u shape same is =
     ap (λ (x : Shape). work_update_refusals x (size_elsewhere w TABLE) rows (entries_of w TABLE rows) u) shape
@@ -75,7 +69,7 @@ update_refusals_are t s rows w u shape same is =
     ∙ ap (λ (n : ℕ). work_update_refusals t.shape n t.rows (entries_of w TABLE t.rows) u) (new_elsewhere w is)
     ∙ ap (λ (es : List Entry). work_update_refusals t.shape 0 t.rows es u) (new_entries t w is)
 
-pub update_count_is : (t : Table) (s : Shape) (rows : List Placed) (w : Edits) (u : Update) → s ≡ t.shape → rows ≡ t.rows → w ≡ no_edits
+pub update_count_is : (t : Table) (s : Shape) (rows : List Placed) (w : Edits) (u : Update) → s ≡ t.shape → rows ≡ t.rows → IsNew w
     → length (taken (edit_of s.columns u).cond (entries_of w TABLE rows)) ≡ length (taken (cond_asked t.shape.columns u.cond) (entries_in t))
 unfolding edit_of
 update_count_is t s rows w u shape same is =
@@ -83,7 +77,7 @@ update_count_is t s rows w u shape same is =
     ∙ ap (λ (rs : List Placed). length (taken (cond_asked t.shape.columns u.cond) (entries_of w TABLE rs))) same
     ∙ ap (λ (es : List Entry). length (taken (cond_asked t.shape.columns u.cond) es)) (new_entries t w is)
 
-pub update_entries_are : (t : Table) (s : Shape) (rows : List Placed) (w new : Edits) (u : Update) → s ≡ t.shape → rows ≡ t.rows → w ≡ no_edits
+pub update_entries_are : (t : Table) (s : Shape) (rows : List Placed) (w new : Edits) (u : Update) → s ≡ t.shape → rows ≡ t.rows → IsNew w
     → entries_of new TABLE rows ≡ updated (edit_of s.columns u) (entries_of w TABLE rows) → entries_of new TABLE t.rows ≡ update_entries t u
 update_entries_are t s rows w new u shape same is made =
     ap (λ (rs : List Placed). entries_of new TABLE rs) (sym same) ∙ made
@@ -91,7 +85,7 @@ update_entries_are t s rows w new u shape same is made =
     ∙ ap (λ (rs : List Placed). updated (edit_of t.shape.columns u) (entries_of w TABLE rs)) same
     ∙ ap (updated (edit_of t.shape.columns u)) (new_entries t w is)
 
-pub delete_refusals_are : (t : Table) (s : Shape) (rows : List Placed) (w : Edits) (d : Delete) → s ≡ t.shape → rows ≡ t.rows → w ≡ no_edits
+pub delete_refusals_are : (t : Table) (s : Shape) (rows : List Placed) (w : Edits) (d : Delete) → s ≡ t.shape → rows ≡ t.rows → IsNew w
     → work_delete_refusals s (size_elsewhere w TABLE) rows (entries_of w TABLE rows) d ≡ work_delete_refusals t.shape 0 t.rows (entries_in t) d
 delete_refusals_are t s rows w d shape same is =
     ap (λ (x : Shape). work_delete_refusals x (size_elsewhere w TABLE) rows (entries_of w TABLE rows) d) shape
@@ -99,14 +93,14 @@ delete_refusals_are t s rows w d shape same is =
     ∙ ap (λ (n : ℕ). work_delete_refusals t.shape n t.rows (entries_of w TABLE t.rows) d) (new_elsewhere w is)
     ∙ ap (λ (es : List Entry). work_delete_refusals t.shape 0 t.rows es d) (new_entries t w is)
 
-pub delete_count_is : (t : Table) (s : Shape) (rows : List Placed) (w : Edits) (d : Delete) → s ≡ t.shape → rows ≡ t.rows → w ≡ no_edits
+pub delete_count_is : (t : Table) (s : Shape) (rows : List Placed) (w : Edits) (d : Delete) → s ≡ t.shape → rows ≡ t.rows → IsNew w
     → length (taken (cond_asked s.columns d.cond) (entries_of w TABLE rows)) ≡ length (taken (cond_asked t.shape.columns d.cond) (entries_in t))
 delete_count_is t s rows w d shape same is =
     ap (λ (x : Shape). length (taken (cond_asked x.columns d.cond) (entries_of w TABLE rows))) shape
     ∙ ap (λ (rs : List Placed). length (taken (cond_asked t.shape.columns d.cond) (entries_of w TABLE rs))) same
     ∙ ap (λ (es : List Entry). length (taken (cond_asked t.shape.columns d.cond) es)) (new_entries t w is)
 
-pub delete_entries_are : (t : Table) (s : Shape) (rows : List Placed) (w new : Edits) (d : Delete) → s ≡ t.shape → rows ≡ t.rows → w ≡ no_edits
+pub delete_entries_are : (t : Table) (s : Shape) (rows : List Placed) (w new : Edits) (d : Delete) → s ≡ t.shape → rows ≡ t.rows → IsNew w
     → entries_of new TABLE rows ≡ deleted (cond_asked s.columns d.cond) (entries_of w TABLE rows) → entries_of new TABLE t.rows ≡ delete_entries t d
 delete_entries_are t s rows w new d shape same is made =
     ap (λ (rs : List Placed). entries_of new TABLE rs) (sym same) ∙ made
@@ -116,7 +110,7 @@ delete_entries_are t s rows w new d shape same is made =
 
 -- ---- SELECT
 
-pub found_is : (t : Table) (s : Shape) (rows : List Placed) (w : Edits) (sel : Select) → s ≡ t.shape → rows ≡ t.rows → w ≡ no_edits
+pub found_is : (t : Table) (s : Shape) (rows : List Placed) (w : Edits) (sel : Select) → s ≡ t.shape → rows ≡ t.rows → IsNew w
     → selected (selection_of s.columns sel) (names_of s.columns) (entries_of w TABLE rows) ≡ found t sel
 found_is t s rows w sel shape same is =
     ap (λ (x : Shape). selected (selection_of x.columns sel) (names_of x.columns) (entries_of w TABLE rows)) shape

@@ -1,6 +1,6 @@
 use Rattle.std.specs.Prelude.{Bool, true, false}
-use Rattle.pk_parse.specs.declared.statement.Statement.{Statement}
-use Rattle.pk_parse.specs.declared.statement.Statement.TheVariants.{Create, Drop, Insert as InsertInto, Update, Delete, Select as SelectFrom, Show, Implies, Cover}
+use Rattle.pk_syntax.specs.declared.statement.Statement.{Statement}
+use Rattle.pk_syntax.specs.declared.statement.Statement.TheVariants.{Create, Drop, Insert as InsertInto, Update, Delete, Select as SelectFrom, Show, Implies, Cover}
 use Rattle.pk_report.specs.declared.reply.Reply.TheVariants.{CommittedNothing}
 use Rattle.pk_bind.specs.Select.{select_refusals}
 use Rattle.pk_engine.specs.State.{State}

@@ -1,5 +1,4 @@
-use Rattle.std.specs.Prelude.{ℕ, ◌+◌, Bool, not, ◌==◌, List, [], ◌∷◌, ◌++◌, length, map, filter, sum_by, Option, find, nat_lt, if◌then◌else◌}
-use Rattle.std.specs.List.{list_any}
+use Rattle.std.specs.Prelude.{ℕ, ◌+◌, Bool, ◌==◌, List, [], ◌∷◌, ◌++◌, length, map, filter, sum_by, Option, find, nat_lt, if◌then◌else◌}
 use Rattle.std.specs.Str.{bytes_eq}
 use Rattle.std.specs.Ordering.{nat_cmp, is_lt}
 use Rattle.std.specs.Cmp.Lexicographic.{slice_cmp}
@@ -7,6 +6,7 @@ use Rattle.std.specs.List.Sorted.{IsStrictlySortedBy}
 use Rattle.pk_values.specs.declared.placed.Placed.{Placed}
 use Rattle.pk_values.specs.declared.changes.Changes.{Changes}
 use Rattle.pk_schema.specs.Shapes.{Shape}
+use Rattle.pk_guard.specs.Changed.{stays}
 
 -- a table: its rows stand in ascending order of their ids, and each id is below the next one
 pub record Table : Type 0 where
@@ -52,10 +52,6 @@ without_table name (t ∷ ts) = if is_named name t then ts else t ∷ without_ta
 
 -- ---- rows changed
 
--- the row has one of these ids
-abbrev pub has_id : List ℕ → Placed → Bool
-has_id ids p = list_any (λ id. id == p.id) ids
-
 -- the row in place of the one with its id
 abbrev pub replaced_by : Placed → Placed → Placed
 replaced_by new p = if p.id == new.id then new else p
@@ -71,7 +67,7 @@ with_rows (p ∷ ps) t = with_rows ps (with_row t p)
 
 -- the table without the rows of these ids
 abbrev pub without_rows : List ℕ → Table → Table
-without_rows ids t = record t { rows = filter (λ p. not (has_id ids p)) t.rows }
+without_rows ids t = record t { rows = filter (stays ids) t.rows }
 
 -- the table after these changes
 unfoldable pub changed_by : Changes → Table → Table

@@ -1,7 +1,7 @@
 use Rattle.std.specs.Prelude.{ℕ, List, [], ◌∷◌, ◌++◌, Option, Some, None}
 use Rattle.pk_values.specs.declared.refusal.Refusal.{Refusal}
 use Rattle.pk_values.specs.declared.refusal.Refusal.TheVariants.{TableExists}
-use Rattle.pk_parse.specs.declared.declaration.TableDecl.{TableDecl}
+use Rattle.pk_syntax.specs.declared.declaration.TableDecl.{TableDecl}
 use Rattle.pk_schema.specs.Shapes.{shape_of}
 use Rattle.pk_schema.specs.Making.{schema_refusals}
 use Rattle.pk_report.specs.declared.reply.Reply.TheVariants.{Created}

@@ -11,7 +11,7 @@ use Rattle.pk_values.specs.declared.refusal.Refusal.TheVariants.{TableExists, Ma
 use Rattle.pk_values.specs.declared.value.Value.{Value}
 use Rattle.pk_values.specs.declared.value.Value.TheVariants.{Null, Integer}
 use Rattle.pk_values.specs.Refusals.{first_some}
-use Rattle.pk_parse.specs.declared.statement.Statement.TheVariants as statements
+use Rattle.pk_syntax.specs.declared.statement.Statement.TheVariants as statements
 use Rattle.pk_schema.specs.Shapes.{Shape}
 use Rattle.pk_rule.specs.Laws.{key_over}
 use Rattle.pk_bind.specs.declared.selection.OrderBy.{OrderBy}
@@ -23,8 +23,8 @@ use Rattle.pk_engine.specs.Answer.{answer}
 use Rattle.pk_engine.specs.Base.{Table, empty_base, comes_before, with_table, without_table, changed_by}
 use Rattle.pk_engine.specs.Create.{create_refusals}
 use Rattle.pk_engine.specs.Edits.{changes_in, change_refusals, commit_refusals, is_unchanged}
-use Rattle.pk_engine.specs.Limits.{most_ids}
-use Rattle.pk_engine.specs.State.{State, started}
+use Rattle.pk_engine.specs.Limits.{most_ids, rows_full}
+use Rattle.pk_engine.specs.State.{State, Changed, started}
 
 -- a INTEGER, with POSSIBLE KEY (a)
 abbrev pub shape : Shape
@@ -94,7 +94,18 @@ abbrev pub adding : ℕ → ℕ → Value → Option Refusal
 adding commit id value =
     first_some (change_refusals (state commit []) (record (table (codes "t")) { next = id; rows = placed 1 one ∷ [] }) (record { gone = []; put = placed id value ∷ [] }))
 
+-- what the first row of the table t is refused for by the number of rows, where the base has these tables beside
+abbrev pub rows_with : List Table → Option Refusal
+rows_with tables = rows_full (state 0 (table (codes "t") ∷ tables)) (Changed ((codes "t", record { gone = []; put = placed 1 Null ∷ [] }) ∷ []))
+
+-- the table u with so many rows
+abbrev pub filled : ℕ → Table
+filled n = record (table (codes "u")) { rows = replicate n (placed 1 Null) }
+
 pub record LimitsAtTheirEdges : Type 0 where
+  pub the_last_row : rows_with (filled 999 ∷ replicate 199 (filled 1000)) ≡ None
+  pub one_row_more : rows_with (replicate 200 (filled 1000)) ≡ Some (BaseLimit base_limits.Rows)
+  pub ids : most_ids ≡ 4611686018427387904
   pub the_last_table : creating 0 (replicate 255 (table (codes "u"))) ≡ None
   pub one_table_more : creating most_ids (replicate 256 (table (codes "u"))) ≡ Some (Limit limits.Tables)
   pub exists_first : creating most_ids (replicate 256 (table (codes "t"))) ≡ Some (TableExists (codes "t"))

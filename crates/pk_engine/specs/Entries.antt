@@ -3,7 +3,9 @@ use Rattle.std.specs.Prelude.{◌≡◌, ℕ, ◌+◌, List, [], ◌∷◌, All}
 use Rattle.pk_values.specs.declared.placed.Placed.{Placed}
 use Rattle.pk_values.specs.declared.changes.Changes.{Changes}
 use Rattle.pk_values.specs.declared.value.Value.{Value}
+use Rattle.pk_values.specs.Values.{IsStorable}
 use Rattle.pk_schema.specs.Admits.{Admits}
+use Rattle.pk_schema.specs.Shapes.{Shape}
 use Rattle.pk_exec.specs.Entries.{Entry, Kept, Touched, New, row_in}
 use Rattle.pk_engine.specs.Base.{Table}
 use Rattle.pk_engine.specs.Edits.{changes_in}
@@ -29,6 +31,10 @@ placed next (Kept id row ∷ es) = record { id = id; row = row } ∷ placed next
 placed next (Touched id row ∷ es) = record { id = id; row = row } ∷ placed next es
 placed next (New row ∷ es) = record { id = next; row = row } ∷ placed (next + 1) es
 
--- these are the changes that some entries make of the table, and its schema admits each row of theirs
+-- the schema admits the row, and each value is one of the code's
+abbrev pub MayBeKept : Shape → List Value → Type 0
+MayBeKept s row = Admits s row × All IsStorable row
+
+-- these are the changes that some entries make of the table, each with a row that the table may have
 abbrev pub AreOf : Table → Changes → Type 0
-AreOf t c = (entries : List Entry) × Follow t.rows entries × All (λ e. Admits t.shape (row_in e)) entries × (c ≡ changes_in t entries)
+AreOf t c = (entries : List Entry) × Follow t.rows entries × All (λ e. MayBeKept t.shape (row_in e)) entries × (c ≡ changes_in t entries)

@@ -2,21 +2,23 @@
 -- base as it is.
 use Rattle.std.specs.Prelude.{◌≡◌, ◌≢◌, ℕ, ◌+◌, ◌<◌, Bool, false, not, List, [], ◌∷◌, ◌++◌, length, map, filter, All, Option, Some, None, if◌then◌else◌}
 use Rattle.std.specs.List.Sorted.{IsPermutation, IsSorted, IsStable}
+use Rattle.pk_values.specs.declared.changes.Changes.{Changes}
 use Rattle.pk_values.specs.declared.placed.Placed.{Placed}
 use Rattle.pk_values.specs.declared.refusal.Refusal.{Refusal}
 use Rattle.pk_values.specs.declared.value.Value.{Value}
 use Rattle.pk_values.specs.Refusals.{first_some}
 use Rattle.pk_values.specs.Values.{value_at}
-use Rattle.pk_parse.specs.declared.declaration.TableDecl.{TableDecl}
-use Rattle.pk_parse.specs.declared.edit.Insert.{Insert}
-use Rattle.pk_parse.specs.declared.edit.Update.{Update}
-use Rattle.pk_parse.specs.declared.edit.Delete.{Delete}
-use Rattle.pk_parse.specs.declared.declaration.ColumnDecl.{ColumnDecl}
-use Rattle.pk_parse.specs.declared.query.Select.{Select}
-use Rattle.pk_parse.specs.declared.query.What.TheVariants as whats
-use Rattle.pk_parse.specs.declared.statement.Statement.{Statement}
-use Rattle.pk_parse.specs.Declarations.{names_of}
-use Rattle.pk_parse.specs.declared.statement.Statement.TheVariants as statements
+use Rattle.pk_syntax.specs.declared.declaration.TableDecl.{TableDecl}
+use Rattle.pk_syntax.specs.declared.edit.Insert.{Insert}
+use Rattle.pk_syntax.specs.declared.edit.Update.{Update}
+use Rattle.pk_syntax.specs.declared.edit.Delete.{Delete}
+use Rattle.pk_syntax.specs.declared.declaration.ColumnDecl.{ColumnDecl}
+use Rattle.pk_syntax.specs.declared.query.Select.{Select}
+use Rattle.pk_syntax.specs.declared.query.What.TheVariants as whats
+use Rattle.pk_syntax.specs.declared.statement.Statement.{Statement}
+use Rattle.pk_syntax.specs.Declarations.{names_of}
+use Rattle.pk_syntax.specs.Given.{IsGiven}
+use Rattle.pk_syntax.specs.declared.statement.Statement.TheVariants as statements
 use Rattle.pk_report.specs.declared.reply.Reply.TheVariants as replies
 use Rattle.pk_schema.specs.Shapes.{shape_of}
 use Rattle.pk_bind.specs.declared.edit.Edit.{Edit}
@@ -31,14 +33,16 @@ use Rattle.pk_bind.specs.Update.{edit_of}
 use Rattle.pk_exec.specs.Changes.{added_rows, placed_from}
 use Rattle.pk_exec.specs.Edits.{takes}
 use Rattle.pk_exec.specs.Entries.{Entry}
+use Rattle.pk_exec.specs.Refusals.{work_insert_refusals, work_update_refusals}
 use Rattle.pk_exec.specs.Rows.{ids_of}
 use Rattle.pk_exec.specs.Selecting.{row_cmp, sorted_by}
-use Rattle.pk_engine.specs.Base.{Table}
+use Rattle.pk_guard.specs.Changed.{changed_rows}
+use Rattle.pk_engine.specs.Base.{Table, changed_by}
 use Rattle.pk_engine.specs.State.{State, current}
 use Rattle.pk_engine.specs.Refusing.{table_of}
-use Rattle.pk_engine.specs.Edits.{changes_in, with_changes}
-use Rattle.pk_engine.specs.Entries.{Follow, placed}
-use Rattle.pk_engine.specs.Valid.{IsValid}
+use Rattle.pk_engine.specs.Edits.{changes_in, with_changes, entries_in, insert_entries, update_entries, delete_entries}
+use Rattle.pk_engine.specs.Entries.{Follow, placed, AreOf}
+use Rattle.pk_engine.specs.Valid.{IsValid, IsValidTable}
 use Rattle.pk_engine.specs.Answer.{answer}
 
 -- ---- what leaves the state as it is
@@ -126,6 +130,19 @@ pub record HasTaken (meets : List Value → Bool) (n : ℕ) (old new : Table) : 
 abbrev pub DeletesLeaveTheRest : Type 0
 DeletesLeaveTheRest = (st : State) (d : Delete) (n : ℕ) → IsValid (current st) → (answer st (statements.Delete d)).reply ≡ replies.Deleted n
     → Becomes st (statements.Delete d) d.table (λ old new. HasTaken (takes (cond_asked old.shape.columns d.cond)) n old new)
+
+-- what INSERT, UPDATE and DELETE that aren't refused change of a table is what some entries change of it, each with a row that it may have
+pub record EditsAreOfEntries (t : Table) : Type 0 where
+  pub inserts : (i : Insert) → IsGiven (statements.Insert i) → first_some (work_insert_refusals t.shape 0 i) ≡ None → AreOf t (changes_in t (insert_entries t i))
+  pub updates : (u : Update) → IsGiven (statements.Update u) → first_some (work_update_refusals t.shape 0 t.rows (entries_in t) u) ≡ None → AreOf t (changes_in t (update_entries t u))
+  pub deletes : (d : Delete) → AreOf t (changes_in t (delete_entries t d))
+
+abbrev pub StatementsMakeEntries : Type 0
+StatementsMakeEntries = (t : Table) → IsValidTable t → EditsAreOfEntries t
+
+-- such changes make of the rows what a guard judges the keys of
+abbrev pub ChangedRowsAreJudged : Type 0
+ChangedRowsAreJudged = (t : Table) (c : Changes) → IsValidTable t → AreOf t c → changed_rows c t.rows ≡ (changed_by c t).rows
 
 -- the changes of any entries over the rows of a table leave exactly the rows of the entries
 abbrev pub EntriesAreCommitted : Type 0

@@ -1,5 +1,5 @@
 -- What a base may hold.
-use Rattle.std.specs.Prelude.{ℕ, List, [], ◌∷◌, length, Option, nat_le, nat_lt}
+use Rattle.std.specs.Prelude.{ℕ, ◌^◌, List, [], ◌∷◌, length, Option, nat_le, nat_lt}
 use Rattle.pk_values.specs.declared.refusal.Refusal.{Refusal}
 use Rattle.pk_values.specs.declared.refusal.Refusal.TheVariants.{BaseLimit, Limit}
 use Rattle.pk_values.specs.declared.refusal.BaseLimitName.TheVariants as base_limits
@@ -17,7 +17,7 @@ most_rows = 200000
 
 -- of row ids and of commit numbers
 abbrev pub most_ids : ℕ
-most_ids = 4611686018427387904
+most_ids = 2 ^ 62
 
 -- the base holds as many tables as it may
 abbrev pub tables_full : State → Option Refusal

@@ -2,8 +2,8 @@
 use Rattle.std.specs.Prelude.{◌≡◌, ℕ, ◌+◌, List, Option, Some, None}
 use Rattle.pk_values.specs.declared.key.KeyDecl.{KeyDecl}
 use Rattle.pk_values.specs.declared.refusal.Refusal.{Refusal}
-use Rattle.pk_parse.specs.declared.declaration.KeyText.{KeyText}
-use Rattle.pk_parse.specs.Declarations.{names_of}
+use Rattle.pk_syntax.specs.declared.declaration.KeyText.{KeyText}
+use Rattle.pk_syntax.specs.Declarations.{names_of}
 use Rattle.pk_schema.specs.Shapes.{key_of}
 use Rattle.pk_report.specs.declared.reply.Reply.{Reply}
 use Rattle.pk_report.specs.declared.reply.Reply.TheVariants as replies

@@ -37,7 +37,7 @@ table_of st name = table_named name (current st).tables
 -- what is answered about a table that was looked up, or that there is none of this name
 abbrev pub about_found : State → List ℕ → (Table → Step) → Option Table → Step
 about_found st name answer (Some t) = answer t
-about_found st name answer None = record { reply = Refused (NoTable name); next = st }
+about_found st name answer None = refused st (NoTable name)
 
 -- what is answered about the table of this name, or that there is none
 unfoldable pub about : State → List ℕ → (Table → Step) → Step

@@ -1,8 +1,8 @@
 use Rattle.std.specs.Prelude.{length}
-use Rattle.pk_parse.specs.declared.query.Select.{Select}
-use Rattle.pk_parse.specs.declared.query.What.{What}
-use Rattle.pk_parse.specs.declared.query.What.TheVariants.{All, Columns, Count}
-use Rattle.pk_parse.specs.Declarations.{names_of}
+use Rattle.pk_syntax.specs.declared.query.Select.{Select}
+use Rattle.pk_syntax.specs.declared.query.What.{What}
+use Rattle.pk_syntax.specs.declared.query.What.TheVariants.{All, Columns, Count}
+use Rattle.pk_syntax.specs.Declarations.{names_of}
 use Rattle.pk_report.specs.declared.reply.Reply.{Reply}
 use Rattle.pk_report.specs.declared.reply.Reply.TheVariants as replies
 use Rattle.pk_bind.specs.Select.{selection_of}

@@ -1,7 +1,7 @@
 ghost use Rattle.std.specs.Prelude.{◌≡◌};
 ghost use Rattle.pk_engine.specs.Answer.{is_answered};
 
-use pk_parse::Statement;
+use pk_syntax::Statement;
 
 /// Whether the engine answers the statement yet, as it does CREATE TABLE, DROP TABLE, INSERT, UPDATE, DELETE, SELECT,
 /// SHOW CREATE TABLE, IMPLIES and COVER.

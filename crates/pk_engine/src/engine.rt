@@ -1,8 +1,8 @@
 ghost use Rattle.std.specs.Prelude.{◌≡◌, IsTrue, IfOk, vec_len};
 
 use crate::table::Stored;
-use pk_parse::Statement;
 use pk_report::Reply;
+use pk_syntax::Statement;
 use pk_values::{Memory, Name, Refusal};
 use std::alloc::Global;
 
@@ -27,7 +27,7 @@ pub struct Engine {
 impl Engine {
     ghost use Rattle.std.specs.List.Sorted.{IsSearchInRange};
     ghost use Rattle.std.specs.Option.{option_map};
-    ghost use Rattle.pk_parse.specs.Given.{declares_plain, texts_are_utf8};
+    ghost use Rattle.pk_syntax.specs.Given.{IsGiven};
     ghost use Rattle.pk_engine.specs.Base.{empty_base, row_count, IsInNameOrder};
     ghost use Rattle.pk_engine.specs.Place.{IsPlaceOf};
     ghost use Rattle.pk_engine.specs.State.{State, started, current};
@@ -48,14 +48,13 @@ impl Engine {
         }
     }
 
-    /// Answers a statement that is one of those answered yet. What it declares is plain and its texts are
-    /// UTF-8, as parsing gives them. A refusal is a reply, and leaves the base as it was. After an `Err`
-    /// nothing is claimed of the engine.
+    /// Answers a statement that is one of those answered yet, and that has what parsing gives: declarations
+    /// that are plain, names that are names, texts of UTF-8 and numbers of 64 bits. A refusal is a reply,
+    /// and leaves the base as it was. After an `Err` nothing is claimed of the engine.
     #[tactic(auto, unfolding(crate::specs::Answer::answer, crate::specs::Answer::is_answered))]
     pub fn step(&mut self, statement: &Statement) -> Result<Reply, Memory>
         requires answered { IsTrue (is_answered statement.now) }
-        requires plain { IsTrue (declares_plain statement.now) }
-        requires texts { IsTrue (texts_are_utf8 statement.now) }
+        requires given { IsGiven statement.now }
         requires stands { (st : State) × StandsFor self.old st }
         ensures reply { IfOk result (λ r. Replies (λ st. answer st statement.now) self.old r) }
         ensures next { IfOk result (λ _. Moves (λ st. answer st statement.now) self.old self.new) }

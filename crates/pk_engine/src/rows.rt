@@ -1,24 +1,24 @@
 //! Rows in the order of their ids, and what changes do to them.
 
-ghost use Rattle.std.specs.Prelude.{◌≡◌, ◌==◌, List, ℕ, not, map, filter};
+ghost use Rattle.std.specs.Prelude.{◌≡◌, ◌==◌, List, ℕ, map, filter};
 ghost use Rattle.std.specs.List.{list_any};
 ghost use Rattle.pk_values.specs.declared.placed.Placed.{Placed};
 ghost use Rattle.pk_exec.specs.Rows.{AscendFrom};
-ghost use Rattle.pk_engine.specs.Base.{has_id, replaced_by};
-ghost use Rattle.pk_guard.specs.Changed.{IdsAscend};
+ghost use Rattle.pk_engine.specs.Base.{replaced_by};
+ghost use Rattle.pk_guard.specs.Changed.{IdsAscend, stays};
 
 use pk_values::Placed;
 
 /// Takes out the rows of these ids, in one walk where there are any.
 pub(crate) fn take_out(rows: &mut Vec<Placed>, ids: &[u64])
     requires { IdsAscend ids.now }
-    ensures { rows.new.items ≡ filter (λ (p : Placed). not (has_id ids.now p)) rows.old.items }
+    ensures { rows.new.items ≡ filter (stays ids.now) rows.old.items }
 {
     if !ids.is_empty() {
         rows.retain(
             |placed| -> bool
                 requires { IdsAscend ids.now }
-                ensures { result ≡ not (has_id ids.entry.now placed.now) }
+                ensures { result ≡ stays ids.entry.now placed.now }
             { !is_among(ids, placed.id) },
         );
     }

@@ -3,8 +3,8 @@ ghost use Rattle.std.specs.Option.{option_map};
 ghost use Rattle.pk_values.specs.declared.refusal.Refusal.TheVariants.{BrokenKey};
 
 use pk_guard::{BuildErr, Guard};
-use pk_parse::print_table;
 use pk_schema::Schema;
+use pk_syntax::print_table;
 use pk_values::{Break, Bytes, Changes, Memory, Name, Placed, Refusal};
 use std::alloc::Global;
 use std::cmp::Ordering;
@@ -36,7 +36,7 @@ impl Model for Stored {
 impl Stored {
     ghost use Rattle.std.specs.Ordering.{nat_cmp};
     ghost use Rattle.std.specs.Cmp.Lexicographic.{slice_cmp};
-    ghost use Rattle.pk_parse.specs.Printing.{table_text};
+    ghost use Rattle.pk_syntax.specs.Printing.{table_text};
     ghost use Rattle.pk_schema.specs.Shapes.{decl_of};
     ghost use Rattle.pk_engine.specs.Base.{changed_by};
     ghost use Rattle.pk_engine.specs.Entries.{AreOf};

@@ -11,13 +11,13 @@ use Rattle.pk_values.specs.declared.value.Value.TheVariants.{Null}
 use Rattle.pk_values.specs.ColumnSet.{has_column}
 use Rattle.pk_values.specs.Records.{row_record, value_record}
 use Rattle.pk_values.specs.Values.{is_null, fits_kinds}
-use Rattle.pk_parse.specs.declared.declaration.ColumnDecl.{ColumnDecl}
-use Rattle.pk_parse.specs.Declarations.{is_plain_length}
+use Rattle.pk_syntax.specs.declared.declaration.ColumnDecl.{ColumnDecl}
+use Rattle.pk_syntax.specs.Declarations.{is_plain_length}
 use Rattle.pk_schema.specs.Shapes.{Shape, IsShape, kinds_of, not_null_of}
 use Rattle.pk_schema.specs.Admits.{Admits, text_length, is_long, is_missing}
 use Rattle.pk_schema.proofs.FitLemmas.{admitted_rows_fit}
 use Rattle.pk_schema.proofs.SetLemmas.{has_first, has_next}
-use Rattle.pk_similar.specs.Filling.{blank}
+use Rattle.pk_values.specs.Values.{blank}
 use Rattle.pk_rule.specs.Plain.{plain_of}
 use Rattle.pk_rule.specs.TwoRows.{mark, is_left_null, low_entry, high_entry, row_from, low_row, high_row}
 use Rattle.pk_rule.proofs.RowLemmas.{low_row_fits, high_row_fits, low_known, high_known}

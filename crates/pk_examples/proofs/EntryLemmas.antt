@@ -10,11 +10,11 @@ use Rattle.pk_values.specs.declared.value.Value.{Value}
 use Rattle.pk_values.specs.declared.value.Value.TheVariants.{Null}
 use Rattle.pk_values.specs.ColumnSet.{IsColumnSet, has_column, columns}
 use Rattle.pk_values.proofs.ColumnLemmas.{listed_columns}
-use Rattle.pk_parse.specs.declared.declaration.ColumnDecl.{ColumnDecl}
-use Rattle.pk_parse.specs.Declarations.{is_certain}
+use Rattle.pk_syntax.specs.declared.declaration.ColumnDecl.{ColumnDecl}
+use Rattle.pk_syntax.specs.Declarations.{is_certain}
 use Rattle.pk_schema.specs.Shapes.{Shape, kinds_of, not_null_of, all_of}
 use Rattle.pk_schema.proofs.SetLemmas.{has_all}
-use Rattle.pk_similar.specs.Filling.{blank}
+use Rattle.pk_values.specs.Values.{blank}
 use Rattle.pk_rule.specs.Plain.{plain_of}
 use Rattle.pk_rule.specs.TwoRows.{mark, is_left_null, low_entry, high_entry, row_from, low_row, high_row}
 use Rattle.pk_examples.specs.Entries.{entry_by}

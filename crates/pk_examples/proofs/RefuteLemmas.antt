@@ -3,7 +3,7 @@ use Rattle.std.proofs.Common.{◌≡◌, sym, subst, ◌^◌, ◌<◌, false, Li
 use Rattle.std.proofs.lemmas.List.{length-map}
 use Rattle.pk_values.specs.declared.key.KeyDecl.{KeyDecl}
 use Rattle.pk_values.specs.declared.value.Value.{Value}
-use Rattle.pk_parse.specs.declared.declaration.ColumnDecl.{ColumnDecl}
+use Rattle.pk_syntax.specs.declared.declaration.ColumnDecl.{ColumnDecl}
 use Rattle.pk_schema.specs.Shapes.{Shape, IsShape}
 use Rattle.pk_rule.specs.Plain.{plain_of}
 use Rattle.pk_rule.specs.Rule.{is_implied}

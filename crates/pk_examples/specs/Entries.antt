@@ -4,7 +4,7 @@ use Rattle.pk_values.specs.declared.kind.Kind.{Kind}
 use Rattle.pk_values.specs.declared.value.Value.{Value}
 use Rattle.pk_values.specs.declared.value.Value.TheVariants.{Null}
 use Rattle.pk_values.specs.ColumnSet.{has_column}
-use Rattle.pk_similar.specs.Filling.{blank}
+use Rattle.pk_values.specs.Values.{blank}
 use Rattle.pk_rule.specs.TwoRows.{mark}
 
 -- the entry of column c: null in the columns of the first set, else 1 or 'a' in those of the second, and 0 or '' elsewhere

@@ -4,7 +4,6 @@ ghost use Rattle.std.specs.Prelude.{◌≡◌, ℕ, ◌^◌, ◌≤◌, ◌<◌,
 ghost use Rattle.pk_values.specs.ColumnSet.{IsColumnSet, has_column};
 ghost use Rattle.pk_schema.specs.Shapes.{kinds_of, not_null_of, all_of};
 ghost use Rattle.pk_schema.specs.Admits.{Admits};
-ghost use Rattle.pk_similar.specs.Filling.{blank};
 ghost use Rattle.pk_rule.specs.Plain.{plain_of};
 ghost use Rattle.pk_rule.specs.Rule.{is_implied};
 ghost use Rattle.pk_rule.specs.Tables.{Refutes};
@@ -84,17 +83,7 @@ fn entry(alloc: Global, kind: Kind, c: u32, nulls: ColSet, marked: ColSet) -> Re
     } else if marked.has(c) {
         mark(alloc, kind)
     } else {
-        blank(alloc, kind)
-    }
-}
-
-// 0 or the empty text.
-fn blank(alloc: Global, kind: Kind) -> Result<Value, Memory>
-    ensures { IfOk result (λ value. value ≡ blank kind) }
-{
-    match kind {
-        Kind::Integer => Ok(Value::Integer(0)),
-        Kind::Text => text(alloc, b""),
+        Ok(Value::blank(alloc, kind))
     }
 }
 

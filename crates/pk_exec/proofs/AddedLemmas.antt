@@ -5,7 +5,7 @@ use Rattle.std.proofs.lemmas.List.{drop_more, drop_all}
 use Rattle.std.proofs.lemmas.List.Sums.{sum_by-cons}
 use Rattle.pk_values.specs.declared.value.Value.{Value}
 use Rattle.pk_values.specs.declared.refusal.Refusal.{Refusal}
-use Rattle.pk_values.specs.Refusals.{first_some, or_else}
+use Rattle.pk_values.specs.Refusals.{first_some}
 use Rattle.pk_exec.specs.declared.base.BaseRow.{BaseRow}
 use Rattle.pk_exec.specs.declared.change.Change.{Change}
 use Rattle.pk_exec.specs.declared.draft.Draft.{Draft}
@@ -13,8 +13,8 @@ use Rattle.pk_exec.specs.declared.exec_err.ExecErr.{ExecErr}
 use Rattle.pk_exec.specs.declared.exec_err.ExecErr.TheVariants as exec_errs
 use Rattle.pk_exec.specs.Answers.{IsCause}
 use Rattle.pk_exec.specs.Fates.{fate_of, fate_refusal}
-use Rattle.pk_exec.specs.Drafts.{changed_edits, changed_added, base_refusal, base_taken, added_refusal, added_taken, added_by_fate, taken_by, IsDraft, Adds, IsRefusalOf, IsBaseDrafted, BaseDrafts, IsDrafted}
-use Rattle.pk_exec.proofs.DraftLemmas.{else_none, else_some, one_cause}
+use Rattle.pk_exec.specs.Drafts.{changed_added, base_refusal, added_refusal, added_taken, added_by_fate, taken_by, IsDraft, Adds, IsRefusalOf, IsBaseDrafted, IsDrafted}
+use Rattle.pk_exec.proofs.DraftLemmas.{else_none, else_some}
 
 -- of the new rows so many are done, and these are left
 pub record IsAddedTo (c : Change) (all left : List (List Value)) (old new : Draft) : Type 0 where

@@ -1,16 +1,15 @@
 -- What a change may do to rows that a schema admits, and what it leaves.
-use Rattle.std.proofs.Common.{◌≡◌, ℕ, ◌+◌, ◌<◌, ◌≤◌, Bool, true, false, ◌&&◌, List, [], ◌∷◌, ◌++◌, All, Option, Some, None, length, nat_lt, nat_le, slice_get, refl, ap, sym, ◌∙◌, subst, arith, IsTrue, IfSome, if◌then◌else◌}
+use Rattle.std.proofs.Common.{◌≡◌, ℕ, ◌<◌, Bool, true, false, ◌&&◌, List, [], ◌∷◌, All, Option, Some, None, length, nat_le, slice_get, refl, subst, arith, IfSome, if◌then◌else◌}
 use Rattle.std.specs.List.{list_all, cons_option}
 use Rattle.std.proofs.lemmas.Bool.{and_parts, leb-true}
 use Rattle.std.proofs.lemmas.List.Elements.{All-nil, All-cons, All-head, All-tail, All-append, All-weaker}
 use Rattle.std.proofs.lemmas.Option.{slice_get_within}
 use Rattle.pk_values.specs.declared.value.Value.{Value}
 use Rattle.pk_values.specs.Records.{row_record}
-use Rattle.pk_parse.specs.declared.declaration.ColumnDecl.{ColumnDecl}
+use Rattle.pk_syntax.specs.declared.declaration.ColumnDecl.{ColumnDecl}
 use Rattle.pk_logic.specs.declared.condition.Cond.{Cond}
 use Rattle.pk_schema.specs.Shapes.{Shape}
 use Rattle.pk_schema.specs.Admits.{Admits}
-use Rattle.pk_bind.specs.declared.edit.Edit.{Edit}
 use Rattle.pk_bind.specs.declared.edit.SetTo.{SetTo}
 use Rattle.pk_bind.specs.Fitting.{cond_fits, edit_fits, set_fits, with_sets, holds_at}
 use Rattle.pk_bind.proofs.SetLemmas.{set_row_admitted, bound_judgeable}
@@ -19,8 +18,7 @@ use Rattle.pk_exec.specs.declared.base.BaseRow.{BaseRow}
 use Rattle.pk_exec.specs.declared.change.Change.{Change}
 use Rattle.pk_exec.specs.declared.change.Fate.{Fate}
 use Rattle.pk_exec.specs.declared.change.Fate.TheVariants.{Left, Put, Gone, Long}
-use Rattle.pk_exec.specs.declared.table_edits.EditedRow.{EditedRow}
-use Rattle.pk_exec.specs.Bases.{edit_by, edits_in, IsRowAdmitted}
+use Rattle.pk_exec.specs.Bases.{edit_by, IsRowAdmitted}
 use Rattle.pk_exec.specs.Edits.{takes}
 use Rattle.pk_exec.specs.Fates.{CanJudge, CanSet, CanChange, fate_of, put_fate, taken_fate}
 use Rattle.pk_exec.specs.Drafts.{change_fits, sets_fit, base_by, base_by_fate, changed_base, changed_edits, changed_added, added_by_fate}

@@ -16,7 +16,7 @@ use Rattle.pk_schema.specs.Admits.{Admits}
 use Rattle.pk_exec.specs.Edits.{inserted_into}
 use Rattle.pk_exec.specs.Entries.{Entry, New}
 use Rattle.pk_exec.specs.Bases.{base_rows, base_entry}
-use Rattle.pk_exec.specs.Works.{Edits, TableEdits, IsWork, edits_at, edit_count, is_for, place_in, stands_at, put_table, with_table, add_rows, size_elsewhere, work_size, SameElsewhere, edit_ids}
+use Rattle.pk_exec.specs.Works.{most_changes, Edits, TableEdits, IsWork, edits_at, edit_count, is_for, place_in, stands_at, put_table, with_table, add_rows, size_elsewhere, work_size, SameElsewhere, edit_ids}
 use Rattle.pk_exec.specs.Seen.{entries_of, new_entries, Covers, Fits, AreAdmitted, is_part}
 use Rattle.pk_exec.specs.Rows.{ids_of}
 use Rattle.pk_exec.proofs.WorkLemmas.{put_is_work, size_parts, edits_put, same_elsewhere, above_all, all_above, tables_of}
@@ -36,21 +36,21 @@ count_more : (rows : List (List Value)) (t : TableEdits) → edit_count (add_row
 count_more rows t = omega (arith, length-append t.added rows)
 
 -- so many new rows leave a work
-pub rows_fit : (w : Edits) (k : ℕ) (rows : List (List Value)) → IsWork w → work_size w + length rows ≤ 20000 → size_elsewhere w k + edit_count (add_rows rows (edits_at w k)) ≤ 20000
+pub rows_fit : (w : Edits) (k : ℕ) (rows : List (List Value)) → IsWork w → work_size w + length rows ≤ most_changes → size_elsewhere w k + edit_count (add_rows rows (edits_at w k)) ≤ most_changes
 rows_fit w k rows is few = omega (arith, few, size_parts w k is, count_more rows (edits_at w k))
 
 -- the tables after the rows were put into the one at the place, or weren't
 pub appended_work :
     (w : Edits) (items : List TableEdits) (k place : ℕ) (b : Bool) (x new : TableEdits) (rows : List (List Value)) (r : Result (Unit {0}) Memory)
     → record { tables = items } ≡ w → IsWork w → place ≡ place_in k w.tables → b ≡ stands_at k w.tables place → b ≡ true → x ≡ get_or items place x
-    → OnOk r (new ≡ add_rows rows x) → OnErr r (new ≡ x) → work_size w + length rows ≤ 20000 → IsWork (record { tables = set items place new })
+    → OnOk r (new ≡ add_rows rows x) → OnErr r (new ≡ x) → work_size w + length rows ≤ most_changes → IsWork (record { tables = set items place new })
 appended_work w items k place b x new rows (Ok u) view is at found there read ok err few =
     let e = edits_there w items k place b x view at found there in
     let t = add_rows rows (edits_at w k) in
     let put : set items place new ≡ put_table t w.tables =
     ap (set items place) (ok ∙ ap (add_rows rows) (read ∙ e.0)) ∙ put_set t w items k place b view (sym e.1) at found there in
     subst (λ (ts : List TableEdits). IsWork (record { tables = ts })) (sym put)
-    (put_is_work t w is (subst (λ (n : ℕ). size_elsewhere w n + edit_count t ≤ 20000) (sym e.1) (rows_fit w k rows is few)))
+    (put_is_work t w is (subst (λ (n : ℕ). size_elsewhere w n + edit_count t ≤ most_changes) (sym e.1) (rows_fit w k rows is few)))
 appended_work w items k place b x new rows (Err m) view is at found there read ok err few =
     let same : set items place new ≡ items = ap (set items place) (err ∙ read) ∙ set-get_or items place x in
     subst (λ (ts : List TableEdits). IsWork (record { tables = ts })) (sym same) (subst IsWork (sym view) is)

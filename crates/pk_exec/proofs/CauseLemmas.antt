@@ -1,7 +1,6 @@
 -- What is blamed at the exits of a walk.
-use Rattle.std.proofs.Common.{◌≡◌, ℕ, ◌+◌, ◌≤◌, Ok, Err, refl, ap, sym, ◌∙◌, subst, arith}
+use Rattle.std.proofs.Common.{◌≡◌, Err, ap, sym, ◌∙◌}
 use Rattle.std.specs.Prelude.{Result, IsErrOf}
-use Rattle.pk_values.specs.declared.refusal.Refusal.{Refusal}
 use Rattle.pk_world.specs.Rose.{Rose}
 use Rattle.pk_world.specs.declared.store_err.StoreErr.{StoreErr}
 use Rattle.pk_world.specs.declared.store_err.StoreErr.TheVariants as store_errs

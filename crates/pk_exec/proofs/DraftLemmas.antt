@@ -1,13 +1,13 @@
 -- How a draft grows row by row.
-use Rattle.std.proofs.Common.{◌≡◌, ℕ, ◌+◌, Bool, true, false, ◌==◌, List, [], ◌∷◌, ◌++◌, Option, Some, None, Ok, Err, map, refl, ap, sym, ◌∙◌, subst, arith, append_assoc, append-nil, length, nat_le, if◌then◌else◌}
-use Rattle.std.specs.Prelude.{sum_by, Result}
-use Rattle.std.specs.List.{flat_map, cons_option}
+use Rattle.std.proofs.Common.{◌≡◌, ℕ, ◌+◌, Bool, true, false, ◌==◌, List, [], ◌∷◌, ◌++◌, Option, Some, None, Err, refl, ap, sym, ◌∙◌, subst, arith, append_assoc, append-nil, length, nat_le, if◌then◌else◌}
+use Rattle.std.specs.Prelude.{Result}
+use Rattle.std.specs.List.{cons_option}
 use Rattle.std.proofs.lemmas.List.{map-append}
 use Rattle.std.proofs.lemmas.List.Sums.{sum_by-cons}
 use Rattle.std.proofs.lemmas.Bool.{eq-eqb}
 use Rattle.pk_values.specs.declared.value.Value.{Value}
 use Rattle.pk_values.specs.declared.refusal.Refusal.{Refusal}
-use Rattle.pk_values.specs.Refusals.{first_some, or_else, first_by}
+use Rattle.pk_values.specs.Refusals.{first_some, or_else}
 use Rattle.pk_exec.specs.declared.base.BaseRow.{BaseRow}
 use Rattle.pk_exec.specs.declared.change.Change.{Change}
 use Rattle.pk_exec.specs.declared.change.Fate.{Fate}
@@ -23,7 +23,7 @@ use Rattle.pk_exec.specs.declared.exec_err.ExecErr.TheVariants as exec_errs
 use Rattle.pk_exec.specs.Answers.{IsCause}
 use Rattle.pk_exec.specs.Edits.{takes}
 use Rattle.pk_exec.specs.Fates.{fate_of, fate_refusal, taken_fate}
-use Rattle.pk_exec.specs.Drafts.{base_by, base_by_fate, changed_base, changed_edits, changed_added, base_taken, base_refusal, row_taken, row_refusal, taken_by, IsDraft, Adds, IsRefusalOf, IsBaseDrafted, BaseDrafts}
+use Rattle.pk_exec.specs.Drafts.{base_by, base_by_fate, changed_base, changed_edits, base_refusal, row_taken, row_refusal, taken_by, IsDraft, Adds, IsRefusalOf, IsBaseDrafted, BaseDrafts}
 use Rattle.pk_exec.specs.Works.{edit_ids}
 use Rattle.pk_exec.specs.Seen.{is_part}
 

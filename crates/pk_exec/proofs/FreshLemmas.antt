@@ -1,5 +1,5 @@
 -- What a transaction sees that has edited nothing.
-use Rattle.std.proofs.Common.{◌≡◌, ℕ, List, [], ◌∷◌, ◌++◌, refl, ap, ◌∙◌, append-nil}
+use Rattle.std.proofs.Common.{◌≡◌, ℕ, List, [], ◌∷◌, refl, ap, sym, ◌∙◌, subst, append-nil}
 use Rattle.std.specs.List.{flat_map}
 use Rattle.std.proofs.lemmas.List.Elements.{All-nil}
 use Rattle.pk_values.specs.declared.placed.Placed.{Placed}
@@ -7,7 +7,7 @@ use Rattle.pk_schema.specs.Shapes.{Shape}
 use Rattle.pk_schema.specs.Admits.{Admits}
 use Rattle.pk_exec.specs.Bases.{base_rows, base_entry}
 use Rattle.pk_exec.specs.Entries.{Entry, kept_entry, kept_entries}
-use Rattle.pk_exec.specs.Works.{no_edits, edits_at, size_elsewhere, work_size}
+use Rattle.pk_exec.specs.Works.{Edits, TableEdits, no_edits, edits_at, size_elsewhere, work_size}
 use Rattle.pk_exec.specs.Seen.{entries_of, Covers, Fits, IsAdmitted}
 
 fresh_base : (rows : List Placed) → flat_map base_entry (base_rows [] rows) ≡ kept_entries rows
@@ -37,3 +37,7 @@ fresh_elsewhere table = refl
 
 pub fresh_size : work_size no_edits ≡ 0
 fresh_size = refl
+
+-- what holds of no edits holds where there are none
+pub fresh_by : (P : Edits → Type 0) (items : List TableEdits) → items ≡ [] → P no_edits → P (record { tables = items })
+fresh_by P items is holds = subst (λ (ts : List TableEdits). P (record { tables = ts })) (sym is) holds

@@ -5,8 +5,8 @@ use Rattle.std.proofs.lemmas.List.{length-map}
 use Rattle.pk_values.specs.declared.value.Value.{Value}
 use Rattle.pk_values.specs.declared.refusal.Refusal.{Refusal}
 use Rattle.pk_values.specs.Refusals.{first_some}
-use Rattle.pk_parse.specs.declared.declaration.ColumnDecl.{ColumnDecl}
-use Rattle.pk_parse.specs.declared.edit.Insert.{Insert}
+use Rattle.pk_syntax.specs.declared.declaration.ColumnDecl.{ColumnDecl}
+use Rattle.pk_syntax.specs.declared.edit.Insert.{Insert}
 use Rattle.pk_bind.specs.Insert.{new_rows, made_row, sources, targets}
 use Rattle.pk_exec.specs.declared.insert_err.InsertErr.{InsertErr}
 use Rattle.pk_exec.specs.declared.insert_err.InsertErr.TheVariants as causes

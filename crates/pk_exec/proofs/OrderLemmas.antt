@@ -1,5 +1,5 @@
 -- ORDER BY's order, and that a stable sort by it is `sorted_by`.
-use Rattle.std.proofs.Common.{◌≡◌, ℕ, Bool, true, false, not, ◌&&◌, List, [], ◌∷◌, refl, ap, sym, ◌∙◌, subst, if◌then◌else◌}
+use Rattle.std.proofs.Common.{◌≡◌, ℕ, Bool, true, false, not, ◌&&◌, List, [], ◌∷◌, refl, ap, sym, ◌∙◌, if◌then◌else◌}
 use Rattle.std.specs.List.{filter, AllByRecursion}
 use Rattle.std.specs.List.Sorted.{IsSortedBy, IsStableBy, ties}
 use Rattle.std.specs.Cmp.{IsStrictWeakOrder, IsTotalOrder, on_total, then_total}
@@ -12,7 +12,7 @@ use Rattle.pk_values.specs.declared.value.Value.{Value}
 use Rattle.pk_values.specs.Values.{value_at, value_cmp}
 use Rattle.pk_values.proofs.ValueOrder.{value_cmp_total}
 use Rattle.pk_bind.specs.declared.selection.OrderBy.{OrderBy}
-use Rattle.pk_exec.specs.Selecting.{turned, column_cmp, row_cmp, put_in_order, sorted_by}
+use Rattle.pk_exec.specs.Selecting.{turned, row_cmp, put_in_order, sorted_by}
 use Rattle.pk_exec.proofs.SortLemmas.{InOrder, in_order, one_order}
 
 -- ---- the order is one

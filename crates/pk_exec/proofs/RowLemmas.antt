@@ -4,8 +4,8 @@ use Rattle.std.proofs.lemmas.List.{take_more, map-append}
 use Rattle.std.specs.declared.cmp.Ordering.{Ordering}
 use Rattle.std.specs.declared.cmp.Ordering.TheVariants.{Less, Equal, Greater}
 use Rattle.std.specs.Ordering.{ordering_then}
-use Rattle.pk_parse.specs.declared.declaration.ColumnDecl.{ColumnDecl}
-use Rattle.pk_parse.specs.Declarations.{names_of}
+use Rattle.pk_syntax.specs.declared.declaration.ColumnDecl.{ColumnDecl}
+use Rattle.pk_syntax.specs.Declarations.{names_of}
 use Rattle.pk_exec.specs.Selecting.{name_of}
 use Rattle.pk_values.specs.declared.value.Value.{Value}
 use Rattle.pk_values.specs.declared.value.Value.TheVariants.{Null}

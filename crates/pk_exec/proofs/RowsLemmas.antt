@@ -1,11 +1,8 @@
 -- Walks over rows with ids that ascend.
-use Rattle.std.proofs.Common.{◌≡◌, ℕ, ◌+◌, ◌≤◌, ◌<◌, Bool, true, false, ◌==◌, List, [], ◌∷◌, Option, Some, None, nat_lt, refl, ap, sym, ◌∙◌, subst, arith, if◌then◌else◌}
-use Rattle.std.specs.List.{list_any, find}
-use Rattle.std.specs.Option.{option_map}
-use Rattle.std.proofs.lemmas.Bool.{ltb-true, ltb-false, lt-ltb, le-ltb, eq-eqb, ne_eqb, cases_Bool}
+use Rattle.std.proofs.Common.{◌≡◌, ℕ, ◌+◌, ◌≤◌, ◌<◌, Bool, true, false, List, [], ◌∷◌, Some, None, nat_lt, refl, arith, if◌then◌else◌}
+use Rattle.std.proofs.lemmas.Bool.{ltb-true, ltb-false, lt-ltb, le-ltb, eq-eqb, ne_eqb}
 use Rattle.pk_values.specs.declared.placed.Placed.{Placed}
-use Rattle.pk_values.specs.declared.value.Value.{Value}
-use Rattle.pk_exec.specs.Rows.{AscendFrom, rows_above, first_id, next_id, is_of, has_id, row_of, ids_of}
+use Rattle.pk_exec.specs.Rows.{AscendFrom, rows_above, first_id, next_id, has_id, row_of}
 
 -- rows that ascend from an id on are all behind one below it
 pub all_above : (id least : ℕ) (ps : List Placed) → id < least → AscendFrom least ps → rows_above id ps ≡ ps

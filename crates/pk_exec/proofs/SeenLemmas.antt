@@ -1,5 +1,5 @@
 -- The rows that a transaction sees, from its entries.
-use Rattle.std.proofs.Common.{◌≡◌, ◌∙◌, ℕ, Bool, true, false, List, [], ◌∷◌, ◌++◌, map, Option, Some, None, refl, ap, sym, if◌then◌else◌}
+use Rattle.std.proofs.Common.{◌≡◌, ◌∙◌, ℕ, Bool, true, false, List, [], ◌∷◌, ◌++◌, map, Option, Some, None, length, replicate, refl, ap, sym, if◌then◌else◌}
 use Rattle.std.specs.List.{filter, flat_map, cons_option}
 use Rattle.std.proofs.lemmas.List.{map-append}
 use Rattle.pk_values.specs.declared.placed.Placed.{Placed}
@@ -7,16 +7,15 @@ use Rattle.pk_values.specs.declared.value.Value.{Value}
 use Rattle.pk_logic.specs.declared.condition.Cond.{Cond}
 use Rattle.pk_exec.specs.declared.base.BaseRow.{BaseRow}
 use Rattle.pk_exec.specs.declared.table_edits.EditedRow.{EditedRow}
-use Rattle.pk_exec.specs.declared.reading.Keep.TheVariants.{Values, Number}
-use Rattle.pk_exec.specs.Entries.{Entry, New, row_in}
+use Rattle.pk_exec.specs.Entries.{Entry, row_in}
 use Rattle.pk_exec.specs.Bases.{base_entry, seen_entry, base_rows, rows_in}
 use Rattle.pk_exec.specs.Edits.{takes, taken}
-use Rattle.pk_exec.specs.Reading.{kept, kept_rows, seen_rows}
+use Rattle.pk_exec.specs.Reading.{kept_rows, seen_rows}
 use Rattle.pk_exec.specs.declared.selected.Selected.{Selected}
-use Rattle.pk_exec.specs.Selecting.{values_at, shown, selected}
+use Rattle.pk_exec.specs.Selecting.{shown, selected}
 use Rattle.pk_bind.specs.declared.selection.Selection.{Selection}
-use Rattle.pk_parse.specs.declared.declaration.ColumnDecl.{ColumnDecl}
-use Rattle.pk_parse.specs.Declarations.{names_of}
+use Rattle.pk_syntax.specs.declared.declaration.ColumnDecl.{ColumnDecl}
+use Rattle.pk_syntax.specs.Declarations.{names_of}
 use Rattle.pk_exec.specs.Works.{Edits, edits_at}
 use Rattle.pk_exec.specs.Seen.{entries_of, new_entries}
 
@@ -57,30 +56,17 @@ taken_rows cond (x ∷ xs) = elim (takes cond (row_in x)) as (λ b.
 pub entries_taken : (w : Edits) (k : ℕ) (rows : List Placed) (cond : Option Cond) → map row_in (taken cond (entries_of w k rows)) ≡ seen_rows w k rows cond
 entries_taken w k rows cond = taken_rows cond (entries_of w k rows) ∙ ap (filter (takes cond)) (entries_rows w k rows)
 
--- ---- what is kept of them
+-- ---- what a walk takes
 
-kept_values : (xs : List (List Value)) → map (kept Values) xs ≡ xs
-kept_values [] = refl
-kept_values (x ∷ xs) = ap (λ (rs : List (List Value)). x ∷ rs) (kept_values xs)
-
-pub values_kept : (cond : Option Cond) (xs : List (List Value)) → kept_rows Values cond xs ≡ filter (takes cond) xs
-values_kept cond xs = kept_values (filter (takes cond) xs)
-
-all_kept : (xs : List (List Value)) → filter (takes None) xs ≡ xs
+-- without a condition all rows are taken
+pub all_kept : (xs : List (List Value)) → kept_rows None xs ≡ xs
 all_kept [] = refl
 all_kept (x ∷ xs) = ap (λ (rs : List (List Value)). x ∷ rs) (all_kept xs)
 
--- without a condition all rows are kept
-pub all_values_kept : (xs : List (List Value)) → kept_rows Values None xs ≡ xs
-all_values_kept xs = values_kept None xs ∙ all_kept xs
-
-numbers : (xs : List (List Value)) → map (values_at []) (map (kept Number) xs) ≡ map (λ (row : List Value). []) xs
+-- an empty row for each
+pub numbers : (xs : List (List Value)) → replicate {A = List Value} (length xs) [] ≡ map (λ (row : List Value). []) xs
 numbers [] = refl
 numbers (x ∷ xs) = ap (λ (rs : List (List Value)). [] ∷ rs) (numbers xs)
-
--- an empty row for each
-pub numbers_kept : (cond : Option Cond) (xs : List (List Value)) → map (values_at []) (kept_rows Number cond xs) ≡ map (λ (row : List Value). []) (filter (takes cond) xs)
-numbers_kept cond xs = numbers (filter (takes cond) xs)
 
 -- the rows that meet a condition, from the parts that a walk takes
 pub seen_from : (w : Edits) (k : ℕ) (rows : List Placed) (cond : Option Cond) (edited : List EditedRow) (added : List (List Value)) → edited ≡ (edits_at w k).edited → added ≡ (edits_at w k).added

@@ -1,5 +1,5 @@
 -- What a settled draft leaves.
-use Rattle.std.proofs.Common.{◌≡◌, ◌∙◌, ℕ, true, List, All, Ok, Err, refl, ap, sym, subst}
+use Rattle.std.proofs.Common.{◌≡◌, ◌∙◌, ℕ, true, List, All, Ok, Err, ap, sym, subst}
 use Rattle.std.specs.Prelude.{Result, OnOk}
 use Rattle.pk_values.specs.declared.placed.Placed.{Placed}
 use Rattle.pk_schema.specs.Shapes.{Shape}

@@ -1,6 +1,5 @@
 -- Walks over a view: what stands after each row.
-use Rattle.std.proofs.Common.{◌≡◌, ℕ, ◌+◌, ◌<◌, ◌≤◌, Bool, true, false, List, [], ◌∷◌, ◌++◌, All, Option, Some, None, Ok, Err, length, refl, ap, sym, ◌∙◌, subst, arith, IsTrue, append_assoc, append-nil}
-use Rattle.std.specs.Prelude.{Result, IsErrOf}
+use Rattle.std.proofs.Common.{◌≡◌, ℕ, ◌+◌, ◌<◌, ◌≤◌, true, List, [], ◌∷◌, ◌++◌, All, Some, None, length, refl, sym, ◌∙◌, subst, arith, IsTrue, append-nil}
 use Rattle.std.proofs.lemmas.List.Elements.{All-nil, All-append}
 use Rattle.pk_values.specs.declared.placed.Placed.{Placed}
 use Rattle.pk_values.specs.declared.value.Value.{Value}
@@ -14,11 +13,11 @@ use Rattle.pk_exec.specs.declared.table_edits.EditedRow.{EditedRow}
 use Rattle.pk_exec.specs.declared.view.View.{Ghosts as ViewGhosts}
 use Rattle.pk_exec.specs.Rows.{AscendFrom, ids_of, rows_above, next_id, row_of, has_id}
 use Rattle.pk_exec.specs.Bases.{IsRowAdmitted, base_at, base_rows, edits_behind}
-use Rattle.pk_exec.specs.Drafts.{change_fits, changed_edits, base_refusal, base_taken, row_refusal, row_taken, IsDraft, IsBaseDrafted}
+use Rattle.pk_exec.specs.Drafts.{change_fits, changed_edits, base_refusal, row_refusal, row_taken, IsDraft, IsBaseDrafted}
 use Rattle.pk_exec.specs.Works.{edit_ids}
 use Rattle.pk_exec.specs.Seen.{IsAdmitted, is_part}
 use Rattle.pk_exec.specs.Views.{IsLeft}
-use Rattle.pk_exec.proofs.RowsLemmas.{IsNext, HasNext, next_row, no_row, from_start}
+use Rattle.pk_exec.proofs.RowsLemmas.{next_row, no_row, from_start}
 use Rattle.pk_exec.proofs.BaseLemmas.{bases_left, bases_none, all_behind, front_part}
 use Rattle.pk_exec.proofs.DraftLemmas.{drafted_more, drafted_refused, part_more, part_all}
 use Rattle.pk_exec.proofs.AdmitLemmas.{edits_admitted}

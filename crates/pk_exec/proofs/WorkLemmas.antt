@@ -8,7 +8,7 @@ use Rattle.std.specs.Ordering.{nat_cmp}
 use Rattle.std.specs.declared.cmp.Ordering.TheVariants.{Less}
 use Rattle.std.proofs.lemmas.Bool.{eqb-true, eqb-false, eq-eqb, ne_eqb, leb-true, leb-false, lt-ltb}
 use Rattle.std.proofs.lemmas.List.Sums.{sum_by-cons}
-use Rattle.pk_exec.specs.Works.{TableEdits, Edits, IsWork, no_edits, edits_at, edit_count, is_for, work_size, size_elsewhere, put_table, with_table, SameElsewhere}
+use Rattle.pk_exec.specs.Works.{most_changes, TableEdits, Edits, IsWork, no_edits, edits_at, edit_count, is_for, work_size, size_elsewhere, put_table, with_table, SameElsewhere}
 use Rattle.pk_values.proofs.NumberLemmas.{less_numbers}
 
 -- nothing edited is a work
@@ -145,7 +145,7 @@ put_elsewhere t (u ∷ us) = elim (nat_le t.table u.table) as (λ b.
     by_same false differ = rw (eq-eqb t.table t.table refl) refl
 
 -- what is put in leaves a work, if it isn't too much
-pub put_is_work : (t : TableEdits) (w : Edits) → IsWork w → size_elsewhere w t.table + edit_count t ≤ 20000 → IsWork (with_table t w)
+pub put_is_work : (t : TableEdits) (w : Edits) → IsWork w → size_elsewhere w t.table + edit_count t ≤ most_changes → IsWork (with_table t w)
 unfolding size_elsewhere
 put_is_work t w is few =
     let rise = rise_put t w.tables is.ascend in
@@ -158,10 +158,10 @@ put_is_work t w is few =
     }
 
 -- no more is changed elsewhere than may be
-pub elsewhere_few : (w : Edits) (table : ℕ) → IsWork w → size_elsewhere w table ≤ 20000
+pub elsewhere_few : (w : Edits) (table : ℕ) → IsWork w → size_elsewhere w table ≤ most_changes
 elsewhere_few w table is = omega (arith, is.most, size_parts w table is)
 
-pub elsewhere_in_few : (w : Edits) (table : ℕ) → IsWork w → sum_by edit_count (filter (λ t. not (is_for table t)) w.tables) ≤ 20000
+pub elsewhere_in_few : (w : Edits) (table : ℕ) → IsWork w → sum_by edit_count (filter (λ t. not (is_for table t)) w.tables) ≤ most_changes
 unfolding size_elsewhere
 elsewhere_in_few w table is = elsewhere_few w table is
 

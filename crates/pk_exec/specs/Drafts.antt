@@ -1,10 +1,10 @@
 -- What a change makes of a transaction's edits of a table.
-use Rattle.std.specs.Prelude.{◌≡◌, ℕ, ◌+◌, Bool, true, false, ◌&&◌, List, [], ◌∷◌, ◌++◌, length, map, sum_by, Option, Some, None, Result, Ok, Err, if◌then◌else◌}
+use Rattle.std.specs.Prelude.{◌≡◌, ℕ, ◌+◌, Bool, true, false, ◌&&◌, List, [], ◌∷◌, ◌++◌, map, sum_by, Option, Some, None, Result, Ok, Err, if◌then◌else◌}
 use Rattle.std.specs.List.{flat_map, list_all}
 use Rattle.pk_values.specs.declared.value.Value.{Value}
 use Rattle.pk_values.specs.declared.refusal.Refusal.{Refusal}
-use Rattle.pk_values.specs.Refusals.{first_by, or_else}
-use Rattle.pk_parse.specs.declared.declaration.ColumnDecl.{ColumnDecl}
+use Rattle.pk_values.specs.Refusals.{first_by}
+use Rattle.pk_syntax.specs.declared.declaration.ColumnDecl.{ColumnDecl}
 use Rattle.pk_bind.specs.declared.edit.SetTo.{SetTo}
 use Rattle.pk_bind.specs.Fitting.{cond_fits, set_fits}
 use Rattle.pk_exec.specs.declared.base.BaseRow.{BaseRow}
@@ -16,7 +16,7 @@ use Rattle.pk_exec.specs.declared.exec_err.ExecErr.{ExecErr}
 use Rattle.pk_exec.specs.declared.exec_err.ExecErr.TheVariants as causes
 use Rattle.pk_exec.specs.declared.table_edits.EditedRow.{EditedRow}
 use Rattle.pk_exec.specs.Answers.{IsCause}
-use Rattle.pk_exec.specs.Bases.{base_rows, edits_in}
+use Rattle.pk_exec.specs.Bases.{edits_in}
 use Rattle.pk_exec.specs.Fates.{fate_of, fate_refusal}
 
 abbrev pub sets_fit : List ColumnDecl → Option (List SetTo) → Bool

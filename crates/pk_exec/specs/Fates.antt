@@ -1,5 +1,5 @@
 -- What becomes of one row under an UPDATE or a DELETE.
-use Rattle.std.specs.Prelude.{◌≡◌, ◌<◌, ℕ, List, length, All, Option, Some, None, nat_le, IsTrue, IfSome, if◌then◌else◌}
+use Rattle.std.specs.Prelude.{◌<◌, List, length, All, Option, Some, None, nat_le, IsTrue, IfSome, if◌then◌else◌}
 use Rattle.pk_values.specs.declared.value.Value.{Value}
 use Rattle.pk_values.specs.declared.refusal.Refusal.{Refusal}
 use Rattle.pk_values.specs.declared.refusal.Refusal.TheVariants.{LongRow}

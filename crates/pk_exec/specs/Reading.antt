@@ -1,11 +1,9 @@
--- Which rows a walk takes, and what it keeps of them.
-use Rattle.std.specs.Prelude.{ℕ, List, [], ◌∷◌, ◌++◌, map, All, Option, Some, None, IfSome, IsTrue}
+-- Which rows a walk takes.
+use Rattle.std.specs.Prelude.{ℕ, List, [], ◌∷◌, ◌++◌, All, Option, Some, None, IfSome, IsTrue}
 use Rattle.std.specs.List.{filter}
 use Rattle.pk_values.specs.declared.placed.Placed.{Placed}
 use Rattle.pk_values.specs.declared.value.Value.{Value}
 use Rattle.pk_logic.specs.declared.condition.Cond.{Cond}
-use Rattle.pk_exec.specs.declared.reading.Keep.{Keep}
-use Rattle.pk_exec.specs.declared.reading.Keep.TheVariants.{Values, Number}
 use Rattle.pk_schema.specs.Shapes.{Shape}
 use Rattle.pk_schema.specs.Admits.{Admits}
 use Rattle.pk_bind.specs.Fitting.{cond_fits}
@@ -17,14 +15,9 @@ use Rattle.pk_exec.specs.Seen.{IsAdmitted}
 use Rattle.pk_exec.specs.Bases.{base_rows, rows_in}
 use Rattle.pk_exec.specs.Edits.{takes}
 
--- what is kept of a row
-abbrev pub kept : Keep → List Value → List Value
-kept Values row = row
-kept Number row = []
-
--- what is kept of the rows that meet the condition
-abbrev pub kept_rows : Keep → Option Cond → List (List Value) → List (List Value)
-kept_rows keep cond rows = map (kept keep) (filter (takes cond) rows)
+-- the rows that meet the condition
+abbrev pub kept_rows : Option Cond → List (List Value) → List (List Value)
+kept_rows cond rows = filter (takes cond) rows
 
 -- the row, where there is one
 abbrev pub row_list : Option (List Value) → List (List Value)

@@ -5,9 +5,9 @@ use Rattle.pk_values.specs.declared.placed.Placed.{Placed}
 use Rattle.pk_values.specs.declared.refusal.Refusal.{Refusal}
 use Rattle.pk_values.specs.declared.refusal.Refusal.TheVariants.{ManyChanges}
 use Rattle.pk_values.specs.Refusals.{first_by}
-use Rattle.pk_parse.specs.declared.edit.Insert.{Insert}
-use Rattle.pk_parse.specs.declared.edit.Update.{Update}
-use Rattle.pk_parse.specs.declared.edit.Delete.{Delete}
+use Rattle.pk_syntax.specs.declared.edit.Insert.{Insert}
+use Rattle.pk_syntax.specs.declared.edit.Update.{Update}
+use Rattle.pk_syntax.specs.declared.edit.Delete.{Delete}
 use Rattle.pk_schema.specs.Shapes.{Shape}
 use Rattle.pk_bind.specs.declared.edit.Edit.{Edit}
 use Rattle.pk_bind.specs.Fitting.{with_sets}
@@ -18,10 +18,11 @@ use Rattle.pk_bind.specs.Delete.{delete_refusals}
 use Rattle.pk_exec.specs.Entries.{Entry, row_in}
 use Rattle.pk_exec.specs.Edits.{taken, updated, deleted}
 use Rattle.pk_exec.specs.Changes.{changed_count}
+use Rattle.pk_exec.specs.Works.{most_changes}
 
--- so many rows would be changed, more than 20,000
+-- so many rows would be changed, more than may be
 abbrev pub many_changes : ℕ → Option Refusal
-many_changes n = if nat_le n 20000 then None else Some ManyChanges
+many_changes n = if nat_le n most_changes then None else Some ManyChanges
 
 -- the first row that would be too long, in the order in which they are seen
 unfoldable pub long_update : Edit → List Entry → Option Refusal

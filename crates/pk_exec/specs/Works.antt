@@ -42,6 +42,10 @@ SameElsewhere table old new = (t : ℕ) → t ≢ table → edits_at new t ≡ e
 
 -- ---- how much is edited
 
+-- how many rows a transaction may change
+abbrev pub most_changes : ℕ
+most_changes = 20000
+
 abbrev pub edit_count : TableEdits → ℕ
 edit_count t = length t.edited + length t.added
 
@@ -65,7 +69,7 @@ changed_tables w = map (λ (t : TableEdits). t.table) (filter has_edits w.tables
 -- the tables stand in the order of their numbers, no two for one, and no more rows are changed than may be
 pub record IsWork (w : Edits) : Type 0 where
   pub ascend : IsStrictlySortedBy nat_cmp (map (λ (t : TableEdits). t.table) w.tables)
-  pub most : work_size w ≤ 20000
+  pub most : work_size w ≤ most_changes
 
 -- the edits with these of one table in place of its own, in the order of the tables' numbers
 abbrev pub put_table : TableEdits → List TableEdits → List TableEdits

@@ -26,7 +26,7 @@ mod work;
 
 pub use exec_err::ExecErr;
 pub use insert_err::InsertErr;
-pub use laws::covered_rows_are_there;
+pub use laws::{covered_rows_are_there, ids_are_no_lower, orders_are_total};
 pub use list_view::ListView;
 pub use selected::Selected;
 pub use view::View;

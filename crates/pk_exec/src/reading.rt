@@ -1,10 +1,9 @@
-ghost use Rattle.std.specs.Prelude.{◌≡◌, ◌++◌, [], All, IsTrue, IfOk, OnOk};
+ghost use Rattle.std.specs.Prelude.{◌≡◌, ◌+◌, ◌++◌, [], length, All, IsTrue, IfOk, OnOk, if◌then◌else◌};
 ghost use Rattle.pk_schema.specs.Shapes.{Shape};
 ghost use Rattle.pk_schema.specs.Admits.{Admits};
-ghost use Rattle.pk_exec.specs.declared.reading.Keep.TheVariants.{Values};
 ghost use Rattle.pk_exec.specs.Bases.{base_rows, rows_in};
 ghost use Rattle.pk_exec.specs.Fates.{CanJudge};
-ghost use Rattle.pk_exec.specs.Reading.{kept, kept_rows, row_list, CanTake, CanJudgeRow};
+ghost use Rattle.pk_exec.specs.Reading.{kept_rows, row_list, CanTake, CanJudgeRow};
 ghost use Rattle.pk_exec.specs.Seen.{IsAdmitted};
 ghost use Rattle.pk_exec.specs.Views.{IsLeft, HasStoreCause};
 
@@ -17,15 +16,6 @@ use pk_values::{Memory, Row};
 use pk_world::StoreErr;
 use std::alloc::Global;
 
-/// What is kept of the rows that are read.
-#[derive(Clone, Copy, Debug, PartialEq, Eq)]
-pub(crate) enum Keep {
-    /// All values.
-    Values,
-    /// Nothing but how many rows there are: each is kept as an empty one.
-    Number,
-}
-
 /// The rows that meet the condition: those of the base as the edits leave them, then the new ones.
 pub(crate) fn taken_rows<V: View>(
     alloc: Global,
@@ -33,32 +23,29 @@ pub(crate) fn taken_rows<V: View>(
     edited: &[EditedRow],
     added: &[Row],
     cond: &Option<Cond>,
-    keep: Keep,
 ) -> Result<Vec<Row>, StoreErr>
     requires can { CanTake V.View view.old edited.now added.now cond.now }
-    ensures told { IfOk result (λ rows. IsTrue (V.tells view.old) → rows.items ≡ kept_rows keep cond.now (rows_in (base_rows edited.now (V.rows view.old)) ++ added.now)) }
-    ensures admitted { IfOk result (λ rows. keep ≡ Values → (s : Shape) → V.fits view.old s → All (IsAdmitted s) edited.now → All (Admits s) added.now → All (Admits s) rows.items) }
+    ensures told { IfOk result (λ rows. IsTrue (V.tells view.old) → rows.items ≡ kept_rows cond.now (rows_in (base_rows edited.now (V.rows view.old)) ++ added.now)) }
+    ensures admitted { IfOk result (λ rows. (s : Shape) → V.fits view.old s → All (IsAdmitted s) edited.now → All (Admits s) added.now → All (Admits s) rows.items) }
     ensures view { IsLeft V.View view.old view.new }
     ensures cause { HasStoreCause V.View view.old view.new result }
 {
     let mut rows = Vec::new(alloc);
-    take_base(alloc, &mut rows, view, edited, cond, keep)?;
-    take_added(alloc, &mut rows, added, cond, keep)?;
+    take_base(&mut rows, view, edited, cond)?;
+    take_added(&mut rows, added, cond)?;
     Ok(rows)
 }
 
 // Takes the rows of the base, in the order of their ids.
 fn take_base<V: View>(
-    alloc: Global,
     rows: &mut Vec<Row>,
     view: &mut V,
     edited: &[EditedRow],
     cond: &Option<Cond>,
-    keep: Keep,
 ) -> Result<(), StoreErr>
     requires can { CanTake V.View view.old edited.now [] cond.now }
-    ensures told { OnOk result (IsTrue (V.tells view.old) → rows.new.items ≡ rows.old.items ++ kept_rows keep cond.now (rows_in (base_rows edited.now (V.rows view.old)))) }
-    ensures admitted { OnOk result (keep ≡ Values → (s : Shape) → V.fits view.old s → All (IsAdmitted s) edited.now → All (Admits s) rows.old.items → All (Admits s) rows.new.items) }
+    ensures told { OnOk result (IsTrue (V.tells view.old) → rows.new.items ≡ rows.old.items ++ kept_rows cond.now (rows_in (base_rows edited.now (V.rows view.old)))) }
+    ensures admitted { OnOk result ((s : Shape) → V.fits view.old s → All (IsAdmitted s) edited.now → All (Admits s) rows.old.items → All (Admits s) rows.new.items) }
     ensures view { IsLeft V.View view.old view.new }
     ensures cause { HasStoreCause V.View view.old view.new result }
 {
@@ -68,66 +55,112 @@ fn take_base<V: View>(
         let base = base_row(view, id, left)?;
         left = edits_behind(left, id);
         at = id;
-        take_row(alloc, rows, base.row, cond, keep)?;
+        take_row(rows, base.row, cond)?;
     }
     Ok(())
 }
 
 // Takes the new rows, in their order.
-fn take_added(
-    alloc: Global,
-    rows: &mut Vec<Row>,
-    added: &[Row],
-    cond: &Option<Cond>,
-    keep: Keep,
-) -> Result<(), Memory>
+fn take_added(rows: &mut Vec<Row>, added: &[Row], cond: &Option<Cond>) -> Result<(), Memory>
     requires { All (CanJudge cond.now) added.now }
-    ensures { OnOk result (rows.new.items ≡ rows.old.items ++ kept_rows keep cond.now added.now) }
+    ensures { OnOk result (rows.new.items ≡ rows.old.items ++ kept_rows cond.now added.now) }
 {
     for row in added {
         if takes(cond, row) {
-            rows.push(kept_copy(alloc, row, keep)?)?;
+            rows.push(row.copy()?)?;
         }
     }
     Ok(())
 }
 
 // Takes the row, where there is one and it meets the condition.
-fn take_row(
-    alloc: Global,
-    rows: &mut Vec<Row>,
-    row: Option<Row>,
-    cond: &Option<Cond>,
-    keep: Keep,
-) -> Result<(), Memory>
+fn take_row(rows: &mut Vec<Row>, row: Option<Row>, cond: &Option<Cond>) -> Result<(), Memory>
     requires { CanJudgeRow cond.now row }
-    ensures { OnOk result (rows.new.items ≡ rows.old.items ++ kept_rows keep cond.now (row_list row)) }
+    ensures { OnOk result (rows.new.items ≡ rows.old.items ++ kept_rows cond.now (row_list row)) }
 {
     let Some(row) = row else {
         return Ok(());
     };
     if takes(cond, &row) {
-        rows.push(kept(alloc, row, keep))?;
+        rows.push(row)?;
     }
     Ok(())
 }
 
-// What is kept of a row.
-fn kept(alloc: Global, row: Row, keep: Keep) -> Row
-    ensures { result ≡ kept keep row }
+/// How many rows meet the condition.
+pub(crate) fn counted_rows<V: View>(
+    view: &mut V,
+    edited: &[EditedRow],
+    added: &[Row],
+    cond: &Option<Cond>,
+) -> Result<u64, StoreErr>
+    requires can { CanTake V.View view.old edited.now added.now cond.now }
+    ensures told { IfOk result (λ n. IsTrue (V.tells view.old) → n ≡ length (kept_rows cond.now (rows_in (base_rows edited.now (V.rows view.old)))) + length (kept_rows cond.now added.now)) }
+    ensures view { IsLeft V.View view.old view.new }
+    ensures cause { HasStoreCause V.View view.old view.new result }
 {
-    match keep {
-        Keep::Values => row,
-        Keep::Number => Row::make(Vec::new(alloc)),
-    }
+    let mut count = 0;
+    count_base(&mut count, view, edited, cond)?;
+    count_added(&mut count, added, cond)?;
+    Ok(count)
 }
 
-// A copy of what is kept of a row.
-fn kept_copy(alloc: Global, row: &Row, keep: Keep) -> Result<Row, Memory>
-    ensures { IfOk result (λ copy. copy ≡ kept keep row.now) }
+// Counts the rows of the base, in the order of their ids.
+fn count_base<V: View>(
+    count: &mut u64,
+    view: &mut V,
+    edited: &[EditedRow],
+    cond: &Option<Cond>,
+) -> Result<(), StoreErr>
+    requires can { CanTake V.View view.old edited.now [] cond.now }
+    ensures told { OnOk result (IsTrue (V.tells view.old) → count.new ≡ count.old + length (kept_rows cond.now (rows_in (base_rows edited.now (V.rows view.old))))) }
+    ensures view { IsLeft V.View view.old view.new }
+    ensures cause { HasStoreCause V.View view.old view.new result }
 {
-    match keep {
-        Keep::Values => row.copy(),
-        Keep::Number => Ok(Row::make(Vec::new(alloc))),
+    let mut at = 0;
+    let mut left = edited;
+    while let Some(id) = view.next_after(at)? {
+        let base = base_row(view, id, left)?;
+        left = edits_behind(left, id);
+        at = id;
+        count_row(count, base.row, cond)?;
     }
+    Ok(())
+}
+
+// Counts the new rows.
+fn count_added(count: &mut u64, added: &[Row], cond: &Option<Cond>) -> Result<(), Memory>
+    requires { All (CanJudge cond.now) added.now }
+    ensures { OnOk result (count.new ≡ count.old + length (kept_rows cond.now added.now)) }
+{
+    for row in added {
+        count_if(count, takes(cond, row))?;
+    }
+    Ok(())
+}
+
+// Counts the row, where there is one and it meets the condition.
+fn count_row(count: &mut u64, row: Option<Row>, cond: &Option<Cond>) -> Result<(), Memory>
+    requires { CanJudgeRow cond.now row }
+    ensures { OnOk result (count.new ≡ count.old + length (kept_rows cond.now (row_list row))) }
+{
+    let Some(row) = row else {
+        return Ok(());
+    };
+    count_if(count, takes(cond, &row))
+}
+
+// Counts one more, where it is taken. A count of 2^64 is answered as want of memory, as no machine holds
+// so many rows.
+fn count_if(count: &mut u64, taken: bool) -> Result<(), Memory>
+    ensures { OnOk result (count.new ≡ count.old + (if taken then 1 else 0)) }
+{
+    if !taken {
+        return Ok(());
+    }
+    let Some(sum) = count.checked_add(1) else {
+        return Err(Memory);
+    };
+    *count = sum;
+    Ok(())
 }

@@ -1,6 +1,6 @@
-ghost use Rattle.std.specs.Prelude.{◌≡◌, ◌<◌, List, ℕ, map, All, IfOk, length};
+ghost use Rattle.std.specs.Prelude.{◌≡◌, ◌<◌, List, [], ℕ, map, replicate, All, IfOk, length};
 ghost use Rattle.pk_values.specs.Values.{value_at};
-ghost use Rattle.pk_parse.specs.Declarations.{names_of};
+ghost use Rattle.pk_syntax.specs.Declarations.{names_of};
 ghost use Rattle.pk_exec.specs.Selecting.{name_of, values_at};
 
 use pk_schema::Column;
@@ -58,4 +58,15 @@ fn shown_value(row: &Row, column: u32) -> Result<Value, Memory>
     } else {
         Ok(Value::Null)
     }
+}
+
+/// So many rows without a value.
+pub(crate) fn empty_rows(alloc: Global, n: u64) -> Result<Items<Items<Value>>, Memory>
+    ensures { IfOk result (λ rows. rows ≡ replicate n []) }
+{
+    let mut rows = Vec::new(alloc);
+    for _row in 0..n {
+        rows.push(Items::from_vec(Vec::new(alloc)))?;
+    }
+    Ok(Items::from_vec(rows))
 }

@@ -1,5 +1,5 @@
 ghost use Rattle.std.specs.Prelude.{◌≡◌, ◌≤◌, OnOk, OnErr};
-ghost use Rattle.pk_exec.specs.Works.{edit_count, has_edits, add_rows};
+ghost use Rattle.pk_exec.specs.Works.{most_changes, edit_count, has_edits, add_rows};
 
 use pk_values::{Memory, Row};
 use std::marker::Model;
@@ -32,9 +32,9 @@ impl Model for TableEdits {
 impl TableEdits {
     /// How many rows are changed.
     pub(crate) fn size(&self) -> u64
-        requires { edit_count self.now ≤ 20000 }
+        requires { edit_count self.now ≤ most_changes }
         ensures count { result ≡ edit_count self.now }
-        ensures most { result ≤ 20000 }
+        ensures most { result ≤ most_changes }
     {
         self.edited.len() as u64 + self.added.len() as u64
     }

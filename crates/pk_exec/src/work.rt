@@ -1,8 +1,12 @@
-ghost use Rattle.std.specs.Prelude.{◌≡◌, ◌+◌, ◌≤◌, IfOk, OnOk, nat_le};
+ghost use Rattle.std.specs.Prelude.{◌≡◌, ℕ, ◌+◌, ◌≤◌, List, IfOk, OnOk, nat_le};
 ghost use Rattle.std.specs.List.Sorted.{IsStrictlySortedBy};
 ghost use Rattle.std.specs.Ordering.{nat_cmp};
 ghost use Rattle.std.specs.List.{position};
-ghost use Rattle.pk_exec.specs.Works.{IsWork, no_edits, edits_at, edit_count, work_size, size_elsewhere, changed_tables, with_table, place_in, stands_at};
+ghost use Rattle.pk_values.specs.declared.placed.Placed.{Placed};
+ghost use Rattle.pk_schema.specs.Shapes.{Shape};
+ghost use Rattle.pk_exec.specs.Entries.{kept_entries};
+ghost use Rattle.pk_exec.specs.Seen.{Covers, Fits, entries_of};
+ghost use Rattle.pk_exec.specs.Works.{IsWork, most_changes, no_edits, edits_at, edit_count, work_size, size_elsewhere, changed_tables, with_table, place_in, stands_at};
 
 use crate::table_edits::{EditedRow, TableEdits};
 use pk_values::{Memory, Row};
@@ -36,9 +40,14 @@ impl Model for Work {
 }
 
 impl Work {
-    /// No edits.
+    /// No edits: it sees the rows of the base as they are.
     pub fn new(alloc: Global) -> Work
-        ensures { result ≡ no_edits }
+        ensures edits { result ≡ no_edits }
+        ensures entries { (table : ℕ) (rows : List Placed) → entries_of result table rows ≡ kept_entries rows }
+        ensures covers { (table : ℕ) (rows : List Placed) → Covers result table rows }
+        ensures fits { (s : Shape) (table : ℕ) → Fits result s table }
+        ensures elsewhere { (table : ℕ) → size_elsewhere result table ≡ 0 }
+        ensures size { work_size result ≡ 0 }
     {
         Work {
             alloc,
@@ -49,7 +58,7 @@ impl Work {
     /// How many rows are changed.
     pub fn size(&self) -> u64
         ensures size { result ≡ work_size self.now }
-        ensures most { result ≤ 20000 }
+        ensures most { result ≤ most_changes }
         ensures work { IsWork self.now }
     {
         let mut size = 0;
@@ -77,7 +86,7 @@ impl Work {
     #[tactic(auto, unfolding(crate::specs::Works::size_elsewhere))]
     fn size_elsewhere(&self, table: u32) -> u64
         ensures size { result ≡ size_elsewhere self.now table }
-        ensures most { result ≤ 20000 }
+        ensures most { result ≤ most_changes }
     {
         let mut size = 0;
         for edits in &self.tables {
@@ -131,7 +140,7 @@ impl Work {
 
     // Puts the edits of a table in place of those that it had.
     fn put(&mut self, edits: TableEdits) -> Result<(), Memory>
-        requires { size_elsewhere self.old edits.table + edit_count edits ≤ 20000 }
+        requires { size_elsewhere self.old edits.table + edit_count edits ≤ most_changes }
         ensures { OnOk result (self.new ≡ with_table edits self.old) }
     {
         let place = self.place_of(edits.table);

@@ -8,8 +8,8 @@ use Rattle.std.specs.Cmp.{nat_cmp_is}
 use Rattle.std.specs.declared.cmp.Ordering.TheVariants.{Less}
 use Rattle.std.proofs.lemmas.Bool.{cases_lt, lt-ltb, le-ltb, ne_eqb, eq-eqb}
 use Rattle.pk_values.specs.declared.placed.Placed.{Placed}
-use Rattle.pk_guard.specs.Changed.{RowsAscend, put_row, put_rows, stays}
-use Rattle.pk_guard.specs.Splits.{below_id, above_id, standing}
+use Rattle.pk_guard.specs.Changed.{RowsAscend, put_row, put_rows, stays, standing}
+use Rattle.pk_guard.specs.Splits.{below_id, above_id}
 use Rattle.pk_values.proofs.NumberLemmas.{less_numbers}
 
 -- ---- the order of ids

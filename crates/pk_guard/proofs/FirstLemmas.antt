@@ -7,8 +7,8 @@ use Rattle.std.proofs.lemmas.List.Folds.{find-append}
 use Rattle.pk_values.specs.declared.key.KeyDecl.{KeyDecl}
 use Rattle.pk_values.specs.declared.placed.Placed.{Placed}
 use Rattle.pk_guard.specs.Breaks.{breaks, first_pair}
-use Rattle.pk_guard.specs.Changed.{put_rows, stays}
-use Rattle.pk_guard.specs.Splits.{below_id, above_id, standing, first_between}
+use Rattle.pk_guard.specs.Changed.{put_rows, stays, standing}
+use Rattle.pk_guard.specs.Splits.{below_id, above_id, first_between}
 use Rattle.pk_guard.proofs.ChangedLemmas.{Ascends, ascends_kept, none_below_from, standing_split}
 use Rattle.pk_values.proofs.ListLemmas.{map_none}
 

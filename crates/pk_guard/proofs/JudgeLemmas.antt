@@ -11,11 +11,11 @@ use Rattle.pk_values.specs.declared.broken.Break.{Break}
 use Rattle.pk_values.specs.declared.key.KeyDecl.{KeyDecl}
 use Rattle.pk_values.specs.declared.kind.Kind.{Kind}
 use Rattle.pk_values.specs.declared.placed.Placed.{Placed}
-use Rattle.pk_parse.specs.declared.declaration.ColumnDecl.{ColumnDecl}
+use Rattle.pk_syntax.specs.declared.declaration.ColumnDecl.{ColumnDecl}
 use Rattle.pk_schema.specs.Shapes.{Shape, kinds_of}
 use Rattle.pk_guard.specs.Breaks.{breaks, first_pair, break_of, first_broken, first_break}
-use Rattle.pk_guard.specs.Changed.{RowsAscend, put_row, put_rows, stays}
-use Rattle.pk_guard.specs.Splits.{standing, is_wide, AreWide}
+use Rattle.pk_guard.specs.Changed.{RowsAscend, put_row, put_rows, stays, standing}
+use Rattle.pk_guard.specs.Splits.{is_wide, AreWide}
 use Rattle.pk_guard.proofs.ChangedLemmas.{ascends_from, put_alone}
 use Rattle.pk_guard.proofs.LeastLemmas.{pair_at}
 use Rattle.pk_guard.proofs.WalkLemmas.{wide_kept}

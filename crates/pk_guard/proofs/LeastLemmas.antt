@@ -14,14 +14,14 @@ use Rattle.pk_values.specs.declared.kind.Kind.{Kind}
 use Rattle.pk_values.specs.declared.placed.Placed.{Placed}
 use Rattle.pk_values.specs.declared.value.Value.{Value}
 use Rattle.pk_similar.specs.Filling.{fill_values}
+use Rattle.pk_similar.specs.Laws.{WeakIsMayAgree, StrongIsMustAgree}
 use Rattle.pk_similar.specs.Similarity.{are_below}
 use Rattle.pk_similar.proofs.RowLemmas.{merged, merged_completes, merged_filled, filled_turned, strong_filled, strong_same}
 use Rattle.pk_schema.specs.Admits.{Admits}
 use Rattle.pk_schema.specs.Shapes.{Shape, IsShape, kinds_of}
 use Rattle.pk_schema.proofs.FitLemmas.{admitted_rows_fit}
 use Rattle.pk_guard.specs.Breaks.{are_similar, breaks, first_pair, break_of, first_broken, first_break}
-use Rattle.pk_guard.specs.Changed.{RowsAscend}
-use Rattle.pk_guard.specs.Laws.{BreaksAt, IsNoLater, IsLeastBreak, AreCommon, ShowsTwoRows}
+use Rattle.pk_guard.specs.Laws.{BreakAs, BreaksAt, Tells, IsNoLater, IsLeastBreak, FirstBreaksAreLeast, AreCommon, ShowsTwoRows, BreaksShowTwoRows}
 use Rattle.pk_guard.proofs.ChangedLemmas.{Above, Ascends, ascends_from}
 use Rattle.pk_guard.proofs.FirstLemmas.{neither, none_first}
 use Rattle.pk_guard.proofs.KeyLemmas.{fit_admitted, key_below, kinds_below, held_unbroken, none_broken}
@@ -228,83 +228,7 @@ broken_at kinds place (k ∷ ks) rows b found = go (first_pair k rows) refl foun
     go None none is deeper = broken_later kinds place k ks rows b none (deeper is)
     go (Some pair) here is deeper = broken_here kinds place k ks rows b pair here (let same : break_of kinds place k pair ≡ b = cc in same)
 
--- ---- the least of all breaks
-
-pair_of : (s : Shape) (rows : List Placed) (c i j : ℕ) (k : KeyDecl) (p q : Placed) → BreaksAt s rows c i j k p q → Pair k rows i j p q
-pair_of s rows c i j k p q w = record { apart = w.apart; earlier = w.earlier; later = w.later; breaking = w.breaking }
-
-no_later : (s : Shape) (rows : List Placed) (b : Break) (c i j : ℕ) (k : KeyDecl) (p q : Placed) → Ascends rows
-    → FirstBroken (kinds_of s.columns) 1 s.keys rows b c k p q → Pair k rows i j p q → NoneBefore k rows i j
-    → (d m n : ℕ) (l : KeyDecl) (x y : Placed) → BreaksAt s rows d m n l x y → IsNoLater b (d + 1) x.id y.id
-no_later s rows b c i j k p q ascend first pair before d m n l x y w = record {
-  by_key = elim (cases_lt d c) as (λ _. b.key ≤ d + 1) [
-    | inl lt ↦ absurd (no_pair_at l rows m n x y (first.before d l lt w.key) (pair_of s rows d m n l x y w))
-    | inr ge ↦ omega (arith, key, ge)
-  ];
-  by_low = λ same. (let le = ids_not_below rows i m p x ascend (least same).0 pair.earlier w.earlier in omega (arith, le, low));
-  by_high = λ same ids. (
-      let place : i ≡ m = same_place rows i m p x ascend (least same).0 pair.earlier w.earlier (sym low ∙ ids) in
-      let le = ids_not_below rows j n q y ascend ((least same).1 place) pair.later w.later in
-      omega (arith, le, high));
-}
-  where
-    key : b.key ≡ 1 + c
-    key = ap (λ (t : Break). t.key) first.told
-
-    low : b.low ≡ p.id
-    low = ap (λ (t : Break). t.low) first.told
-
-    high : b.high ≡ q.id
-    high = ap (λ (t : Break). t.high) first.told
-
-    least : b.key ≡ d + 1 → (i ≤ m) × (i ≡ m → j ≤ n)
-    least same =
-        let place : d ≡ c = omega (arith, key, same) in
-        let mine : slice_get s.keys c ≡ Some l = subst (λ e. slice_get s.keys e ≡ Some l) place w.key in
-        let first_key = first.key in
-        let one : l ≡ k = cc in
-        before m n x y (subst (λ (t : KeyDecl). Pair t rows m n x y) one (pair_of s rows d m n l x y w))
-
-least_break : (s : Shape) (rows : List Placed) (b : Break) → Ascends rows
-    → (c : ℕ) × (k : KeyDecl) × (p q : Placed) × FirstBroken (kinds_of s.columns) 1 s.keys rows b c k p q → IsLeastBreak s rows b
-least_break s rows b ascend w =
-    let first = w.4 in
-    let at = pair_at w.1 rows w.2 w.3 first.pair in
-    let pair = at.2 in
-    let key = ap (λ (t : Break). t.key) first.told in
-    let low = ap (λ (t : Break). t.low) first.told in
-    let high = ap (λ (t : Break). t.high) first.told in
-    let rise = ids_rise rows at.0 at.1 w.2 w.3 ascend pair.apart pair.earlier pair.later in
-    record {
-      stands = (
-        w.0,
-        at.0,
-        at.1,
-        w.1,
-        w.2,
-        w.3,
-        record { key = first.key; apart = pair.apart; earlier = pair.earlier; later = pair.later; breaking = pair.breaking },
-        record {
-          key = omega (arith, key);
-          sort = ap (λ (t : Break). t.sort) first.told;
-          low = low;
-          high = high;
-          ordered = omega (arith, rise, low, high);
-        },
-      );
-      least = no_later s rows b w.0 at.0 at.1 w.1 w.2 w.3 ascend first pair at.3;
-    }
-
-pub first_breaks_are_least : (s : Shape) (rows : List Placed) → RowsAscend rows
-    → (first_break s rows ≡ None → (c i j : ℕ) (k : KeyDecl) (p q : Placed) → ¬ BreaksAt s rows c i j k p q)
-    × ((b : Break) → first_break s rows ≡ Some b → IsLeastBreak s rows b)
-unfolding first_break
-first_breaks_are_least s rows ascend = (
-  (λ none c i j k p q w. no_pair_at k rows i j p q (none_broken (kinds_of s.columns) 1 s.keys rows none c k w.key) (pair_of s rows c i j k p q w)),
-  (λ b found. least_break s rows b (ascends_from rows ascend) (broken_at (kinds_of s.columns) 1 s.keys rows b found)),
-)
-
--- ---- what a break shows
+-- ---- the values that two rows have in common
 
 common : (sort : Sort) (kinds : List Kind) (cs : List ℕ) (a b : List Value) → fits_kinds kinds a ≡ true → fits_kinds kinds b ≡ true
     → are_below (length kinds) cs ≡ true → are_similar sort cs a b ≡ true → AreCommon sort kinds cs a b (fill_values kinds cs a b)
@@ -318,43 +242,151 @@ common sorts.Certain kinds cs a b fits_a fits_b below similar = (
 common sorts.Possible kinds cs a b fits_a fits_b below similar =
     (strong_filled kinds a b cs similar, sym (strong_same a b cs similar) ∙ strong_filled kinds a b cs similar)
 
+-- ---- rows of a table break a key by completions where they do by similarity
+
 fits_at : (s : Shape) (rows : List Placed) (i : ℕ) (p : Placed) → All (λ (q : Placed). Admits s q.row) rows → slice_get rows i ≡ Some p
     → fits_kinds (kinds_of s.columns) p.row ≡ true
 fits_at s rows i p admitted is =
     ((admitted_rows_fit s p.row).0 (subst (λ (q : Placed). Admits s q.row) (get_or_from_slice_get rows i p p is) (admitted i p (slice_get_within rows i p is)))).kinds
 
-shown : (s : Shape) (rows : List Placed) (b : Break) → IsShape s → All (λ (p : Placed). Admits s p.row) rows
-    → (c : ℕ) × (k : KeyDecl) × (p q : Placed) × FirstBroken (kinds_of s.columns) 1 s.keys rows b c k p q
-    → (c i j : ℕ) × (k : KeyDecl) × (p q : Placed) × ShowsTwoRows s rows b c i j k p q
-shown s rows b shape admitted w =
-    let kinds = kinds_of s.columns in
-    let first = w.4 in
-    let at = pair_at w.1 rows w.2 w.3 first.pair in
-    let pair = at.2 in
-    let key = ap (λ (t : Break). t.key) first.told in
-    let below = kinds_below s w.1 (key_below s w.0 w.1 shape first.key) in
-    let values = common w.1.sort kinds (columns w.1.columns) w.2.row w.3.row (fits_at s rows at.0 w.2 admitted pair.earlier) (fits_at s rows at.1 w.3 admitted pair.later) below pair.breaking in (
-      w.0,
-      at.0,
-      at.1,
-      w.1,
-      w.2,
-      w.3,
-      record {
-        key = first.key;
-        place = omega (arith, key);
-        sort = ap (λ (t : Break). t.sort) first.told;
-        fails = λ holds. no_pair_at w.1 rows at.0 at.1 w.2 w.3 (held_unbroken kinds rows w.1 (fit_admitted s rows admitted) holds) pair;
-        apart = pair.apart;
-        earlier = pair.earlier;
-        later = pair.later;
-        low = ap (λ (t : Break). t.low) first.told;
-        high = ap (λ (t : Break). t.high) first.told;
-        values = subst (AreCommon w.1.sort kinds (columns w.1.columns) w.2.row w.3.row) (sym (ap (λ (t : Break). t.values) first.told)) values;
-      },
-    )
+module _ (weak_is : WeakIsMayAgree) (strong_is : StrongIsMustAgree) where
+  similar_break : (sort : Sort) (kinds : List Kind) (cs : List ℕ) (a b : List Value) → fits_kinds kinds a ≡ true → fits_kinds kinds b ≡ true
+      → are_below (length kinds) cs ≡ true → are_similar sort cs a b ≡ true → BreakAs sort kinds cs a b
+  similar_break sorts.Certain kinds cs a b fits_a fits_b below similar = (weak_is kinds a b cs fits_a fits_b below).0 similar
+  similar_break sorts.Possible kinds cs a b fits_a fits_b below similar = (strong_is kinds a b cs fits_a fits_b below).0 similar
 
-pub breaks_show_two_rows : (s : Shape) (rows : List Placed) (b : Break) → IsShape s → All (λ (p : Placed). Admits s p.row) rows → first_break s rows ≡ Some b
-    → (c i j : ℕ) × (k : KeyDecl) × (p q : Placed) × ShowsTwoRows s rows b c i j k p q
-unfolding first_break
-breaks_show_two_rows s rows b shape admitted found = shown s rows b shape admitted (broken_at (kinds_of s.columns) 1 s.keys rows b found)
+  break_similar : (sort : Sort) (kinds : List Kind) (cs : List ℕ) (a b : List Value) → fits_kinds kinds a ≡ true → fits_kinds kinds b ≡ true
+      → are_below (length kinds) cs ≡ true → BreakAs sort kinds cs a b → are_similar sort cs a b ≡ true
+  break_similar sorts.Certain kinds cs a b fits_a fits_b below breaking = (weak_is kinds a b cs fits_a fits_b below).1 breaking
+  break_similar sorts.Possible kinds cs a b fits_a fits_b below breaking = (strong_is kinds a b cs fits_a fits_b below).1 breaking
+
+  -- ---- the least of all breaks
+
+  pair_of : (s : Shape) (rows : List Placed) (c i j : ℕ) (k : KeyDecl) (p q : Placed) → IsShape s → All (λ (r : Placed). Admits s r.row) rows
+      → BreaksAt s rows c i j k p q → Pair k rows i j p q
+  pair_of s rows c i j k p q shape admitted w = record {
+    apart = w.apart;
+    earlier = w.earlier;
+    later = w.later;
+    breaking =
+        break_similar k.sort (kinds_of s.columns) (columns k.columns) p.row q.row (fits_at s rows i p admitted w.earlier) (fits_at s rows j q admitted w.later)
+        (kinds_below s k (key_below s c k shape w.key)) w.breaking;
+  }
+
+  breaks_at : (s : Shape) (rows : List Placed) (c i j : ℕ) (k : KeyDecl) (p q : Placed) → IsShape s → All (λ (r : Placed). Admits s r.row) rows
+      → slice_get s.keys c ≡ Some k → Pair k rows i j p q → BreaksAt s rows c i j k p q
+  breaks_at s rows c i j k p q shape admitted key pair = record {
+    key = key;
+    apart = pair.apart;
+    earlier = pair.earlier;
+    later = pair.later;
+    breaking =
+        similar_break k.sort (kinds_of s.columns) (columns k.columns) p.row q.row (fits_at s rows i p admitted pair.earlier) (fits_at s rows j q admitted pair.later)
+        (kinds_below s k (key_below s c k shape key)) pair.breaking;
+  }
+
+  no_later : (s : Shape) (rows : List Placed) (b : Break) (c i j : ℕ) (k : KeyDecl) (p q : Placed) → IsShape s → All (λ (r : Placed). Admits s r.row) rows → Ascends rows
+      → FirstBroken (kinds_of s.columns) 1 s.keys rows b c k p q → Pair k rows i j p q → NoneBefore k rows i j
+      → (d m n : ℕ) (l : KeyDecl) (x y : Placed) → BreaksAt s rows d m n l x y → IsNoLater b (d + 1) x.id y.id
+  no_later s rows b c i j k p q shape admitted ascend first pair before d m n l x y w = record {
+    by_key = elim (cases_lt d c) as (λ _. b.key ≤ d + 1) [
+      | inl lt ↦ absurd (no_pair_at l rows m n x y (first.before d l lt w.key) (pair_of s rows d m n l x y shape admitted w))
+      | inr ge ↦ omega (arith, key, ge)
+    ];
+    by_low = λ same. (let le = ids_not_below rows i m p x ascend (least same).0 pair.earlier w.earlier in omega (arith, le, low));
+    by_high = λ same ids. (
+        let place : i ≡ m = same_place rows i m p x ascend (least same).0 pair.earlier w.earlier (sym low ∙ ids) in
+        let le = ids_not_below rows j n q y ascend ((least same).1 place) pair.later w.later in
+        omega (arith, le, high));
+  }
+    where
+      key : b.key ≡ 1 + c
+      key = ap (λ (t : Break). t.key) first.told
+
+      low : b.low ≡ p.id
+      low = ap (λ (t : Break). t.low) first.told
+
+      high : b.high ≡ q.id
+      high = ap (λ (t : Break). t.high) first.told
+
+      least : b.key ≡ d + 1 → (i ≤ m) × (i ≡ m → j ≤ n)
+      least same =
+          let place : d ≡ c = omega (arith, key, same) in
+          let mine : slice_get s.keys c ≡ Some l = subst (λ e. slice_get s.keys e ≡ Some l) place w.key in
+          let first_key = first.key in
+          let one : l ≡ k = cc in
+          before m n x y (subst (λ (t : KeyDecl). Pair t rows m n x y) one (pair_of s rows d m n l x y shape admitted w))
+
+  tells : (s : Shape) (rows : List Placed) (b : Break) (c i j : ℕ) (k : KeyDecl) (p q : Placed) → Ascends rows
+      → FirstBroken (kinds_of s.columns) 1 s.keys rows b c k p q → Pair k rows i j p q → Tells b c k p q
+  tells s rows b c i j k p q ascend first pair =
+      let key = ap (λ (t : Break). t.key) first.told in
+      let low = ap (λ (t : Break). t.low) first.told in
+      let high = ap (λ (t : Break). t.high) first.told in
+      let rise = ids_rise rows i j p q ascend pair.apart pair.earlier pair.later in
+      record {
+        key = omega (arith, key);
+        sort = ap (λ (t : Break). t.sort) first.told;
+        low = low;
+        high = high;
+        ordered = omega (arith, rise, low, high);
+      }
+
+  least_break : (s : Shape) (rows : List Placed) (b : Break) → IsShape s → All (λ (r : Placed). Admits s r.row) rows → Ascends rows
+      → (c : ℕ) × (k : KeyDecl) × (p q : Placed) × FirstBroken (kinds_of s.columns) 1 s.keys rows b c k p q → IsLeastBreak s rows b
+  least_break s rows b shape admitted ascend w =
+      let first = w.4 in
+      let at = pair_at w.1 rows w.2 w.3 first.pair in
+      record {
+        stands = (
+          w.0,
+          at.0,
+          at.1,
+          w.1,
+          w.2,
+          w.3,
+          breaks_at s rows w.0 at.0 at.1 w.1 w.2 w.3 shape admitted first.key at.2,
+          tells s rows b w.0 at.0 at.1 w.1 w.2 w.3 ascend first at.2,
+        );
+        least = no_later s rows b w.0 at.0 at.1 w.1 w.2 w.3 shape admitted ascend first at.2 at.3;
+      }
+
+  pub first_breaks_are_least : FirstBreaksAreLeast
+  unfolding first_break
+  first_breaks_are_least s rows shape admitted ascend = (
+    (λ none c i j k p q w. no_pair_at k rows i j p q (none_broken (kinds_of s.columns) 1 s.keys rows none c k w.key) (pair_of s rows c i j k p q shape admitted w)),
+    (λ b found. least_break s rows b shape admitted (ascends_from rows ascend) (broken_at (kinds_of s.columns) 1 s.keys rows b found)),
+  )
+
+  -- ---- what a break shows
+
+  shown : (s : Shape) (rows : List Placed) (b : Break) → IsShape s → All (λ (p : Placed). Admits s p.row) rows → Ascends rows
+      → (c : ℕ) × (k : KeyDecl) × (p q : Placed) × FirstBroken (kinds_of s.columns) 1 s.keys rows b c k p q
+      → (c i j : ℕ) × (k : KeyDecl) × (p q : Placed) × ShowsTwoRows s rows b c i j k p q
+  shown s rows b shape admitted ascend w =
+      let kinds = kinds_of s.columns in
+      let first = w.4 in
+      let at = pair_at w.1 rows w.2 w.3 first.pair in
+      let pair = at.2 in
+      let below = kinds_below s w.1 (key_below s w.0 w.1 shape first.key) in
+      let values = common w.1.sort kinds (columns w.1.columns) w.2.row w.3.row (fits_at s rows at.0 w.2 admitted pair.earlier) (fits_at s rows at.1 w.3 admitted pair.later) below pair.breaking in (
+        w.0,
+        at.0,
+        at.1,
+        w.1,
+        w.2,
+        w.3,
+        record {
+          fails = λ holds. no_pair_at w.1 rows at.0 at.1 w.2 w.3 (held_unbroken kinds rows w.1 (fit_admitted s rows admitted) holds) pair;
+          stands = breaks_at s rows w.0 at.0 at.1 w.1 w.2 w.3 shape admitted first.key pair;
+          told = tells s rows b w.0 at.0 at.1 w.1 w.2 w.3 ascend first pair;
+          values = subst (AreCommon w.1.sort kinds (columns w.1.columns) w.2.row w.3.row) (sym (ap (λ (t : Break). t.values) first.told)) values;
+          filled = ap (λ (t : Break). t.values) first.told;
+          least = no_later s rows b w.0 at.0 at.1 w.1 w.2 w.3 shape admitted ascend first pair at.3;
+        },
+      )
+
+  pub breaks_show_two_rows : BreaksShowTwoRows
+  unfolding first_break
+  breaks_show_two_rows s rows b shape admitted ascend found =
+      shown s rows b shape admitted (ascends_from rows ascend) (broken_at (kinds_of s.columns) 1 s.keys rows b found)

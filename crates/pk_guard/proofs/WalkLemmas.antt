@@ -8,8 +8,8 @@ use Rattle.std.proofs.Math.Seq.{drop-cons}
 use Rattle.pk_values.specs.declared.key.KeyDecl.{KeyDecl}
 use Rattle.pk_values.specs.declared.placed.Placed.{Placed}
 use Rattle.pk_guard.specs.Breaks.{breaks, first_pair}
-use Rattle.pk_guard.specs.Changed.{RowsAscend, put_rows, stays}
-use Rattle.pk_guard.specs.Splits.{below_id, above_id, standing, first_between, is_wide, AreWide}
+use Rattle.pk_guard.specs.Changed.{RowsAscend, put_rows, stays, standing}
+use Rattle.pk_guard.specs.Splits.{below_id, above_id, first_between, is_wide, AreWide}
 use Rattle.pk_guard.proofs.ChangedLemmas.{ascends_from, rows_kept, rows_behind}
 use Rattle.pk_guard.proofs.FirstLemmas.{unbroken_kept, pair_step, pair_none, found_step}
 

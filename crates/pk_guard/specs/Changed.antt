@@ -28,6 +28,10 @@ put_rows (p ∷ ps) rows = put_rows ps (put_row p rows)
 abbrev pub stays : List ℕ → Placed → Bool
 stays gone p = not (list_any (λ id. id == p.id) gone)
 
--- the rows with these changes: those that go are out, then those that are put stand in their places
+-- the rows that stay, and those that are put in their places
+abbrev pub standing : List ℕ → List Placed → List Placed → List Placed
+standing gone put rows = put_rows put (filter (stays gone) rows)
+
+-- the rows with these changes
 abbrev pub changed_rows : Changes → List Placed → List Placed
-changed_rows c rows = put_rows c.put (filter (λ (p : Placed). not (list_any (λ id. id == p.id) c.gone)) rows)
+changed_rows c rows = standing c.gone c.put rows

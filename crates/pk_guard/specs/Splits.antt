@@ -7,7 +7,6 @@ use Rattle.pk_values.specs.declared.key.KeyDecl.{KeyDecl}
 use Rattle.pk_values.specs.declared.placed.Placed.{Placed}
 use Rattle.pk_similar.specs.Similarity.{are_below}
 use Rattle.pk_guard.specs.Breaks.{breaks}
-use Rattle.pk_guard.specs.Changed.{put_rows, stays}
 
 -- the rows whose ids are below this one
 abbrev pub below_id : ℕ → List Placed → List Placed
@@ -16,10 +15,6 @@ below_id id rows = filter (λ (p : Placed). nat_lt p.id id) rows
 -- the rows whose ids are above this one
 abbrev pub above_id : ℕ → List Placed → List Placed
 above_id id rows = filter (λ (p : Placed). nat_lt id p.id) rows
-
--- the rows that stay, and those that are put in their places
-abbrev pub standing : List ℕ → List Placed → List Placed → List Placed
-standing gone put rows = put_rows put (filter (stays gone) rows)
 
 -- the first row of one list that breaks the key with one of another, and the first of those
 unfoldable pub first_between : KeyDecl → List Placed → List Placed → Option (Placed × Placed)

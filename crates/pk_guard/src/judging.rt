@@ -6,9 +6,9 @@ ghost use Rattle.pk_similar.specs.Similarity.{are_below};
 ghost use Rattle.pk_schema.specs.Admits.{Admits};
 ghost use Rattle.pk_schema.specs.Shapes.{kinds_of};
 ghost use Rattle.pk_guard.specs.Breaks.{breaks, break_of, first_break, first_pair};
-ghost use Rattle.pk_guard.specs.Changed.{IdsAscend, RowsAscend};
+ghost use Rattle.pk_guard.specs.Changed.{IdsAscend, RowsAscend, standing};
 ghost use Rattle.pk_guard.specs.Holds.{KeysHold};
-ghost use Rattle.pk_guard.specs.Splits.{standing, is_wide, AreWide};
+ghost use Rattle.pk_guard.specs.Splits.{is_wide, AreWide};
 
 use crate::pairs::first_pair;
 use pk_schema::{Column, Schema};

@@ -3,8 +3,8 @@
 ghost use Rattle.std.specs.Prelude.{◌≡◌, None, IsTrue, if◌then◌else◌, filter, find, option_map};
 ghost use Rattle.std.specs.Option.{option_copied};
 ghost use Rattle.pk_guard.specs.Breaks.{breaks, first_pair};
-ghost use Rattle.pk_guard.specs.Changed.{IdsAscend, RowsAscend, stays};
-ghost use Rattle.pk_guard.specs.Splits.{standing, first_between, is_wide, AreWide};
+ghost use Rattle.pk_guard.specs.Changed.{IdsAscend, RowsAscend, stays, standing};
+ghost use Rattle.pk_guard.specs.Splits.{first_between, is_wide, AreWide};
 
 use crate::by_id::{split_at_id, stays};
 use pk_similar::{strong, weak};

@@ -9,9 +9,9 @@ use Rattle.pk_values.specs.declared.key.Sort.{Sort}
 use Rattle.pk_values.specs.declared.key.Sort.TheVariants.{Certain, Possible}
 use Rattle.pk_values.specs.ColumnSet.{IsColumnSet, is_subset, column_set_cmp}
 use Rattle.pk_rule.specs.Plain.{Plain, IsPlain}
-use Rattle.pk_rule.specs.Rule.{alone_implies, is_implied}
+use Rattle.pk_rule.specs.Rule.{some_implies, alone_implies, is_implied}
 use Rattle.pk_rule.specs.Laws.{key_over}
-use Rattle.pk_imply.specs.Candidates.{candidates, some_implies, IsLeast}
+use Rattle.pk_imply.specs.Candidates.{candidates, IsLeast}
 use Rattle.pk_imply.specs.Cover.{IsMinimal, ListsAll, IsCoverByRule}
 use Rattle.pk_imply.proofs.ListLemmas.{in_kept, kept_in, in_map, map_in}
 use Rattle.pk_imply.proofs.SubsetLemmas.{subset_trans, subset_same}

@@ -9,7 +9,7 @@ use Rattle.std.proofs.lemmas.Option.{slice_get_within, get_or_from_slice_get, sl
 use Rattle.std.proofs.Math.Dec.{leb-suc-suc}
 use Rattle.std.proofs.lemmas.List.{length-map}
 use Rattle.pk_values.specs.declared.key.KeyDecl.{KeyDecl}
-use Rattle.pk_parse.specs.declared.declaration.ColumnDecl.{ColumnDecl}
+use Rattle.pk_syntax.specs.declared.declaration.ColumnDecl.{ColumnDecl}
 use Rattle.pk_schema.specs.Shapes.{Shape}
 use Rattle.pk_rule.specs.Plain.{Plain, IsPlain, plain_of}
 use Rattle.pk_rule.specs.Tables.{Implied}
@@ -76,10 +76,12 @@ true_of_tables s k (Some place) plain inside is =
     let first = λ (d : KeyDecl). position-Some (λ (e : KeyDecl). alone_implies s.known e k) s.keys place d (sym is) in
     let got : slice_get s.keys place ≡ Some (get_or s.keys place k) = slice_get-get_or s.keys place k (first k).0 in (
       implied_holds s k plain inside (sym (place_if_implied s k) ∙ ap is_some (sym is)),
-      (get_or s.keys place k, got, alone_holds s k place (get_or s.keys place k) plain inside got (first k).1),
-      (λ i d before at implied.
-          alone_fails s k i d plain inside at
-          (subst (λ (e : KeyDecl). alone_implies s.known e k ≡ false) (get_or_from_slice_get s.keys i d d at) ((first d).2 i before)) implied),
+      record {
+        alone = (get_or s.keys place k, got, alone_holds s k place (get_or s.keys place k) plain inside got (first k).1);
+        first = λ i d before at implied.
+            alone_fails s k i d plain inside at
+            (subst (λ (e : KeyDecl). alone_implies s.known e k ≡ false) (get_or_from_slice_get s.keys i d d at) ((first d).2 i before)) implied;
+      },
     )
 
 -- a set of a shape's columns is one of the plain schema's

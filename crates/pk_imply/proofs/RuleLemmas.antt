@@ -6,7 +6,7 @@ use Rattle.pk_values.specs.declared.key.KeyDecl.{KeyDecl}
 use Rattle.pk_values.specs.declared.key.Sort.{Sort}
 use Rattle.pk_values.specs.declared.key.Sort.TheVariants.{Certain, Possible}
 use Rattle.pk_values.specs.ColumnSet.{IsColumnSet, is_subset}
-use Rattle.pk_parse.specs.Declarations.{is_certain}
+use Rattle.pk_syntax.specs.Declarations.{is_certain}
 use Rattle.pk_rule.specs.Plain.{Plain}
 use Rattle.pk_rule.specs.Rule.{alone_implies, is_implied}
 use Rattle.pk_rule.specs.Laws.{key_over}

@@ -1,7 +1,6 @@
 -- The rules that are told lead to the key, and rules that lead to a key are sound.
-use Rattle.std.proofs.Common.{◌≡◌, refl, sym, ◌∙◌, ap, subst, ℕ, zero, suc, ◌+◌, ◌^◌, ◌<◌, true, false, ◌==◌, List, [], ◌∷◌, length, get_or, inl, inr, arith}
+use Rattle.std.proofs.Common.{◌≡◌, refl, sym, ◌∙◌, ap, subst, ℕ, zero, suc, ◌+◌, ◌<◌, true, false, ◌==◌, List, [], ◌∷◌, get_or, inl, inr, arith}
 use Rattle.std.specs.Prelude.{Some, slice_get}
-use Rattle.std.specs.List.{list_any}
 use Rattle.std.proofs.lemmas.Bool.{cases_Bool, eqb-true}
 use Rattle.std.proofs.lemmas.List.Quantifiers.{position-Some}
 use Rattle.std.proofs.lemmas.Option.{get_or_from_slice_get, slice_get-get_or}
@@ -13,12 +12,13 @@ use Rattle.pk_values.specs.declared.rule.Rule.TheVariants.{Declared, Strengthen,
 use Rattle.pk_values.specs.declared.value.Value.{Value}
 use Rattle.pk_values.specs.ColumnSet.{IsColumnSet, is_subset}
 use Rattle.pk_rule.specs.Plain.{Plain, IsPlain}
-use Rattle.pk_rule.specs.Tables.{KeyHolds, TableOf, Implied}
-use Rattle.pk_rule.specs.Rule.{alone_implies, is_implied}
+use Rattle.pk_rule.specs.Tables.{KeyHolds, TableOf}
+use Rattle.pk_rule.specs.Rule.{alone_implies}
 use Rattle.pk_rule.specs.Laws.{key_over}
 use Rattle.pk_rule.proofs.RuleLemmas.{one_holds}
 use Rattle.pk_rule.proofs.StepLemmas.{step_holds}
-use Rattle.pk_imply.specs.Deriving.{implying_place, column_rules, rules_between, rules_from, rules_of, Leads, Derives}
+use Rattle.pk_imply.specs.Deriving.{implying_place, column_rules, rules_between, rules_from, rules_of, Leads}
+use Rattle.pk_imply.specs.Laws.{RulesLeadToTheKey, DerivationsAreSound}
 use Rattle.pk_imply.proofs.PlaceLemmas.{got_in}
 use Rattle.pk_imply.proofs.RuleLemmas.{alone_from, alone_parts, fits_own, known_of_possible}
 use Rattle.pk_imply.proofs.CoverLemmas.{inside_set, key_inside}
@@ -81,34 +81,12 @@ keys_lead known Possible Certain x y is_set alone =
     let parts = alone_parts known (key_over Possible x) (key_over Certain y) alone in
     (refl, known_of_possible known x parts.1, columns_lead known Certain x y is_set parts.0)
 
--- some declared key implies k, and the rules are those from the first
-first_rules : (known n : ℕ) (keys : List KeyDecl) (k : KeyDecl) → list_any (λ d. alone_implies known d k) keys ≡ true
-    → (i : ℕ) × (d : KeyDecl) × (slice_get keys i ≡ Some d) × (alone_implies known d k ≡ true) × (rules_from known n keys k ≡ Declared (n + i) ∷ rules_between d k)
-unfolding rules_from
-first_rules known n [] k none = cc
-first_rules known n (x ∷ xs) k some =
-    elim (cases_Bool (alone_implies known x k)) [
-      | inl alone ↦ (0, x, refl, alone, rw alone (ap (λ m. Declared m ∷ rules_between x k) (count n)))
-      | inr fails ↦
-          let later = first_rules known (suc n) xs k (rw fails at some) in
-          (suc later.0, later.1, later.2, later.3, rw fails (later.4 ∙ ap (λ m. Declared m ∷ rules_between later.1 k) (count_more n later.0)))
-    ]
-  where
-    count : (n : ℕ) → n ≡ n + 0
-    count n = omega arith
-
-    count_more : (n i : ℕ) → suc n + i ≡ n + suc i
-    count_more n i = omega arith
-
-pub rules_lead : (s : Plain) (k : KeyDecl) → IsPlain s → k.columns < 2 ^ length s.kinds → is_implied s k ≡ true → Derives s (rules_of s k) k
-unfolding is_implied
-rules_lead s k plain inside implied =
-    let first = first_rules s.known 1 s.keys k implied in
-    subst (λ rules. Derives s rules k) (sym first.4)
-    (first.0, first.1, count first.0, first.2, keys_lead s.known first.1.sort k.sort first.1.columns k.columns (inside_set s k.columns plain inside) first.3)
-  where
-    count : (i : ℕ) → 1 + i ≡ suc i
-    count i = omega arith
+pub rules_lead : RulesLeadToTheKey
+rules_lead s k place plain inside is =
+    let d = get_or s.keys place k in
+    let first = position-Some (λ (e : KeyDecl). alone_implies s.known e k) s.keys place k is in
+    let got : slice_get s.keys place ≡ Some d = slice_get-get_or s.keys place k first.0 in
+    (rules_between d k, d, rules_at s k place d is got, got, keys_lead s.known d.sort k.sort d.columns k.columns (inside_set s k.columns plain inside) first.1)
 
 -- ---- whatever leads to a key is sound
 
@@ -132,12 +110,8 @@ kept_by_rules s rows (Extend more ∷ rules) of x k plain x_set table leads hold
     kept_by_rules s rows rules of more k plain leads.0 table leads.2
     (turn_step s rows of of x more plain leads.0 table (alone_from s.known (key_over of x) (key_over of more) leads.1 (fits_own s.known (key_over of x))) holds)
 
-pub derived_holds : (s : Plain) (rules : List Rule) (k : KeyDecl) → IsPlain s → Derives s rules k → Implied s k
-derived_holds s [] k plain derives = absurd derives
-derived_holds s (Strengthen ∷ rules) k plain derives = absurd derives
-derived_holds s (Weaken ∷ rules) k plain derives = absurd derives
-derived_holds s (Extend more ∷ rules) k plain derives = absurd derives
-derived_holds s (Declared place ∷ rules) k plain derives = λ rows table.
-    let d_set = inside_set s derives.1.columns plain (key_inside s derives.1 plain (got_in s.keys derives.0 derives.1 derives.3)) in
-    kept_by_rules s rows rules derives.1.sort derives.1.columns k plain d_set table derives.4
-    (one_holds s.kinds rows s.keys derives.0 derives.1 table.2 derives.3)
+pub derived_holds : DerivationsAreSound
+derived_holds s rules k plain (place, from) = λ rows table.
+    let d = from.1 in
+    let d_set = inside_set s d.columns plain (key_inside s d plain (got_in s.keys place d from.3)) in
+    kept_by_rules s rows from.0 d.sort d.columns k plain d_set table from.4 (one_holds s.kinds rows s.keys place d table.2 from.3)

@@ -5,10 +5,10 @@ use Rattle.pk_values.specs.declared.key.Sort.{Sort}
 use Rattle.pk_values.specs.declared.key.Sort.TheVariants.{Certain, Possible}
 use Rattle.pk_rule.specs.Plain.{Plain, IsPlain}
 use Rattle.pk_rule.specs.Tables.{Implied}
-use Rattle.pk_rule.specs.Rule.{is_implied}
+use Rattle.pk_rule.specs.Rule.{some_implies, is_implied}
 use Rattle.pk_rule.specs.Laws.{key_over}
 use Rattle.pk_rule.proofs.RuleLemmas.{implied_holds, holds_implied}
-use Rattle.pk_imply.specs.Candidates.{candidates, some_implies, has_part, IsLeast}
+use Rattle.pk_imply.specs.Candidates.{candidates, has_part, IsLeast}
 use Rattle.pk_imply.specs.Cover.{IsMinimal, ListsAll, IsCoverOf, IsCover, IsCoverByRule, least_of, cover_of}
 use Rattle.pk_imply.proofs.LeastLemmas.{lists_same, least_listed}
 use Rattle.pk_imply.proofs.InsertLemmas.{in_order_lists}

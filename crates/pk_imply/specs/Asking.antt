@@ -5,9 +5,9 @@ use Rattle.pk_values.specs.declared.key.KeyDecl.{KeyDecl}
 use Rattle.pk_values.specs.declared.refusal.Refusal.{Refusal}
 use Rattle.pk_values.specs.declared.refusal.Refusal.TheVariants.{NoColumn, ColumnTwice}
 use Rattle.pk_values.specs.Refusals.{first_some}
-use Rattle.pk_parse.specs.declared.declaration.ColumnDecl.{ColumnDecl}
-use Rattle.pk_parse.specs.declared.declaration.KeyText.{KeyText}
-use Rattle.pk_parse.specs.Declarations.{twice}
+use Rattle.pk_syntax.specs.declared.declaration.ColumnDecl.{ColumnDecl}
+use Rattle.pk_syntax.specs.declared.declaration.KeyText.{KeyText}
+use Rattle.pk_syntax.specs.Declarations.{twice}
 use Rattle.pk_schema.specs.Shapes.{Shape, place_of_column, key_of}
 use Rattle.pk_imply.specs.declared.asking.AskErr.{AskErr}
 use Rattle.pk_imply.specs.declared.asking.AskErr.TheVariants.{Refused, Memory}

@@ -11,10 +11,6 @@ use Rattle.pk_rule.specs.Laws.{key_over}
 abbrev pub candidates : ℕ → Sort → List KeyDecl → List ℕ
 candidates known sort keys = map (λ (d : KeyDecl). d.columns) (filter (λ (d : KeyDecl). alone_implies known d (key_over sort d.columns)) keys)
 
--- one of the keys alone implies this one
-abbrev pub some_implies : ℕ → List KeyDecl → KeyDecl → Bool
-some_implies known keys k = list_any (λ d. alone_implies known d k) keys
-
 -- one of the sets lies inside this one, and isn't the same
 abbrev pub has_part : List ℕ → ℕ → Bool
 has_part sets x = list_any (λ y. is_subset y x && not (y == x)) sets

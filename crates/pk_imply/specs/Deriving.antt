@@ -1,5 +1,5 @@
 -- Which declared key implies another, and by which rules.
-use Rattle.std.specs.Prelude.{◌≡◌, ℕ, suc, ◌<◌, ◌==◌, List, [], ◌∷◌, ◌++◌, Option, None, Some, IsTrue, position, slice_get, if◌then◌else◌}
+use Rattle.std.specs.Prelude.{◌≡◌, ℕ, suc, ◌+◌, ◌<◌, ◌==◌, List, [], ◌∷◌, ◌++◌, Option, None, Some, IsTrue, position, slice_get, if◌then◌else◌}
 use Rattle.pk_values.specs.declared.key.KeyDecl.{KeyDecl}
 use Rattle.pk_values.specs.declared.key.Sort.{Sort}
 use Rattle.pk_values.specs.declared.key.Sort.TheVariants.{Certain, Possible}
@@ -15,14 +15,17 @@ use Rattle.pk_rule.specs.Laws.{with_key}
 abbrev pub implying_place : Plain → KeyDecl → Option ℕ
 implying_place s k = position (λ d. alone_implies s.known d k) s.keys
 
--- What a place says of all tables: the key holds in every table of the schema, and in every table where the declared key at that
--- place does; for no declared key before it is that so. And no place says that the key fails in some table of the schema.
+-- The declared key at this place is the first that alone implies k: k holds in every table of the schema with that one key, and for no declared key before
+-- it is that so.
+pub record IsFirstAlone (s : Plain) (k : KeyDecl) (place : ℕ) : Type 0 where
+  pub alone : (d : KeyDecl) × (slice_get s.keys place ≡ Some d) × Implied (with_key s d) k
+  pub first : (i : ℕ) (d : KeyDecl) → i < place → slice_get s.keys i ≡ Some d → ¬ Implied (with_key s d) k
+
+-- What a place says of all tables: the key holds in every table of the schema, and the declared key at that place is the first that alone implies it. And
+-- no place says that the key fails in some table of the schema.
 abbrev pub IsTrueOfTables : Plain → KeyDecl → Option ℕ → Type 0
 IsTrueOfTables s k None = ¬ Implied s k
-IsTrueOfTables s k (Some place) =
-    Implied s k
-    × ((d : KeyDecl) × (slice_get s.keys place ≡ Some d) × Implied (with_key s d) k)
-    × ((i : ℕ) (d : KeyDecl) → i < place → slice_get s.keys i ≡ Some d → ¬ Implied (with_key s d) k)
+IsTrueOfTables s k (Some place) = Implied s k × IsFirstAlone s k place
 
 -- ---- the rules that are told
 
@@ -60,10 +63,10 @@ Leads known d (Strengthen ∷ rules) k = (d.sort ≡ Possible) × IsTrue (is_sub
 Leads known d (Weaken ∷ rules) k = (d.sort ≡ Certain) × Leads known (record d { sort = Possible }) rules k
 Leads known d (Extend set ∷ rules) k = IsColumnSet set × IsTrue (is_subset d.columns set) × Leads known (record d { columns = set }) rules k
 
--- the rules are the declaration of a key at a place, counted from 1, and then lead from it to k
+-- the rules begin with the declaration of the key at this place, which is told counted from 1, and then lead from it to k
+abbrev pub DerivesFrom : ℕ → Plain → List Rule → KeyDecl → Type 0
+DerivesFrom place s rules k = (rest : List Rule) × (d : KeyDecl) × (rules ≡ Declared (place + 1) ∷ rest) × (slice_get s.keys place ≡ Some d) × Leads s.known d rest k
+
+-- they do so from some place
 abbrev pub Derives : Plain → List Rule → KeyDecl → Type 0
-Derives s [] k = ⊥
-Derives s (Strengthen ∷ rules) k = ⊥
-Derives s (Weaken ∷ rules) k = ⊥
-Derives s (Extend set ∷ rules) k = ⊥
-Derives s (Declared place ∷ rules) k = (i : ℕ) × (d : KeyDecl) × (place ≡ suc i) × (slice_get s.keys i ≡ Some d) × Leads s.known d rules k
+Derives s rules k = (place : ℕ) × DerivesFrom place s rules k

@@ -1,5 +1,5 @@
 -- What implication and the cover come to. s is a plain schema, keys are its cover, and k is a key over its columns.
-use Rattle.std.specs.Prelude.{◌≡◌, ◌^◌, ◌<◌, List, ◌∷◌, ◌++◌, length, Contains, IsTrue, IsFalse}
+use Rattle.std.specs.Prelude.{◌≡◌, ℕ, ◌^◌, ◌<◌, List, ◌∷◌, ◌++◌, length, Contains, Some, IsFalse}
 use Rattle.pk_values.specs.declared.key.KeyDecl.{KeyDecl}
 use Rattle.pk_values.specs.declared.key.Sort.TheVariants.{Possible}
 use Rattle.pk_values.specs.declared.rule.Rule.{Rule}
@@ -7,7 +7,7 @@ use Rattle.pk_values.specs.ColumnSet.{is_subset}
 use Rattle.pk_rule.specs.Plain.{Plain, IsPlain}
 use Rattle.pk_rule.specs.Tables.{Implied}
 use Rattle.pk_rule.specs.Rule.{is_implied}
-use Rattle.pk_imply.specs.Deriving.{rules_of, Derives}
+use Rattle.pk_imply.specs.Deriving.{implying_place, IsTrueOfTables, rules_of, DerivesFrom, Derives}
 use Rattle.pk_imply.specs.Cover.{IsCover, IsCoverByRule, cover_of}
 
 -- the schema with these keys in place of its own
@@ -16,10 +16,14 @@ with_keys s keys = record s { keys = keys }
 
 -- ---- implication
 
--- The rules that are told for a key that is implied are the declaration of a key and lead from it to this one.
+-- The place that is told is that of the first declared key that alone implies the key, and none is told where the key fails in some table.
+abbrev pub PlacesAreTrueOfTables : Type 0
+PlacesAreTrueOfTables = (s : Plain) (k : KeyDecl) → IsPlain s → k.columns < 2 ^ length s.kinds → IsTrueOfTables s k (implying_place s k)
+
+-- The rules that are told begin with the declaration of the key at that place, and lead from it to the key asked for.
 abbrev pub RulesLeadToTheKey : Type 0
 RulesLeadToTheKey =
-    (s : Plain) (k : KeyDecl) → IsPlain s → k.columns < 2 ^ length s.kinds → IsTrue (is_implied s k) → Derives s (rules_of s k) k
+    (s : Plain) (k : KeyDecl) (place : ℕ) → IsPlain s → k.columns < 2 ^ length s.kinds → implying_place s k ≡ Some place → DerivesFrom place s (rules_of s k) k
 
 -- Whatever rules lead from a declared key to another, this one holds in every table of the schema.
 abbrev pub DerivationsAreSound : Type 0

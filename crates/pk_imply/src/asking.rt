@@ -5,8 +5,8 @@ ghost use Rattle.std.specs.Option.{option_copied};
 ghost use Rattle.pk_values.specs.Refusals.{first_some};
 ghost use Rattle.pk_imply.specs.Asking.{Asks, ask_refusals, missing_in};
 
-use pk_parse::{ColumnDecl, KeyText};
 use pk_schema::{Schema, column_place, key_of, twice};
+use pk_syntax::{ColumnDecl, KeyText};
 use pk_values::{KeyDecl, Memory, Name, Refusal};
 
 /// Why no key is asked about.

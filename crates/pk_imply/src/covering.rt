@@ -2,7 +2,7 @@ ghost use Rattle.std.specs.Prelude.{◌≡◌, ◌++◌, not, filter, map, IfOk,
 ghost use Rattle.pk_values.specs.declared.key.Sort.TheVariants as sorts;
 ghost use Rattle.pk_rule.specs.Plain.{plain_of};
 ghost use Rattle.pk_rule.specs.Laws.{key_over};
-ghost use Rattle.pk_imply.specs.Candidates.{some_implies};
+ghost use Rattle.pk_rule.specs.Rule.{some_implies};
 ghost use Rattle.pk_imply.specs.Cover.{IsCover, cover_of};
 
 use crate::implying::some_implies;

@@ -1,9 +1,8 @@
 ghost use Rattle.std.specs.Prelude.{◌≡◌, ◌<◌, ◌^◌, not, ◌||◌, length, position, is_some, IfSome};
 ghost use Rattle.pk_values.specs.ColumnSet.{is_subset};
-ghost use Rattle.pk_parse.specs.Declarations.{is_certain};
+ghost use Rattle.pk_syntax.specs.Declarations.{is_certain};
 ghost use Rattle.pk_rule.specs.Plain.{plain_of};
-ghost use Rattle.pk_rule.specs.Rule.{alone_implies, is_implied};
-ghost use Rattle.pk_imply.specs.Candidates.{some_implies};
+ghost use Rattle.pk_rule.specs.Rule.{alone_implies, some_implies, is_implied};
 ghost use Rattle.pk_imply.specs.Deriving.{implying_place, IsTrueOfTables};
 
 use pk_schema::Schema;

@@ -1,10 +1,17 @@
 //! What implication and the cover come to. A law is a contract; its function does nothing.
 
-ghost use Rattle.pk_imply.specs.Laws.{RulesLeadToTheKey, DerivationsAreSound, OneListIsTheCover, TheCoverIsComputed, TheRuleTellsTheCover, CoverImpliesTheSame, CoverImpliesTheSameByRule, CoverHasNoneToSpare, CoverHasNoneToSpareByRule, CoverIsInEachEqual, CoverIsInEachEqualByRule};
+ghost use Rattle.pk_imply.specs.Laws.{PlacesAreTrueOfTables, RulesLeadToTheKey, DerivationsAreSound, OneListIsTheCover, TheCoverIsComputed, TheRuleTellsTheCover, CoverImpliesTheSame, CoverImpliesTheSameByRule, CoverHasNoneToSpare, CoverHasNoneToSpareByRule, CoverIsInEachEqual, CoverIsInEachEqualByRule};
 ghost use Rattle.pk_imply.specs.Examples.{ExamplesAreComputed};
 ghost use Rattle.pk_imply.specs.Edges.{QuestionsAtTheirEdges, RulesAtTheirEdges, CoversAtTheirEdges};
 
-/// The rules that `derive` tells are the declaration of a key, and lead from it to the key asked for.
+/// The place that `implies` tells is that of the first declared key that alone implies the key asked for,
+/// by all tables; none is told where the key fails in some table of the schema.
+pub fn places_are_true_of_tables()
+    ensures { PlacesAreTrueOfTables }
+{}
+
+/// The rules that `derive` tells begin with the declaration of that key, and lead from it to the key asked
+/// for.
 pub fn rules_lead_to_the_key()
     ensures { RulesLeadToTheKey }
 {}

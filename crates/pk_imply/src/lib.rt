@@ -6,7 +6,7 @@
 //!
 //! - `asked_key` tells which key is asked about, by the names of its columns, or why there is none;
 //! - `implies` tells the first declared key that alone implies another, over all tables, and none exactly
-//!   where all declared keys together don't imply it;
+//!   where all declared keys together don't imply it (`places_are_true_of_tables`);
 //! - `derive` tells the rules that lead from that key to the other (`rules_lead_to_the_key`), and whatever
 //!   rules lead to a key, it is implied (`derivations_are_sound`);
 //! - `cover` gives the cover: the keys over minimal sets of columns, without the possible keys that a
@@ -33,7 +33,7 @@ pub use derivation::derive;
 pub use implying::implies;
 pub use laws::{
     definitions_at_their_edges, derivations_are_sound, examples_are_computed,
-    one_list_is_the_cover, rules_lead_to_the_key, the_cover_has_none_to_spare,
-    the_cover_implies_the_same, the_cover_is_computed, the_cover_is_in_each_equal,
-    the_rule_tells_the_cover,
+    one_list_is_the_cover, places_are_true_of_tables, rules_lead_to_the_key,
+    the_cover_has_none_to_spare, the_cover_implies_the_same, the_cover_is_computed,
+    the_cover_is_in_each_equal, the_rule_tells_the_cover,
 };

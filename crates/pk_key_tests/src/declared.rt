@@ -1,11 +1,13 @@
 //! What the tests share: what a script declares, and values and refusals as they are spelled.
 
-ghost use Rattle.std.specs.Prelude.{IsTrue, IfOk};
-ghost use Rattle.pk_parse.specs.Declarations.{is_plain};
+ghost use Rattle.std.specs.Prelude.{All, IsTrue, IfOk};
+ghost use Rattle.pk_lex.specs.Tokens.{is_lexed};
+ghost use Rattle.pk_syntax.specs.Declarations.{is_plain};
 
 use pk_lex::{Piece, lex};
-use pk_parse::{Statement, TableDecl, parse};
+use pk_parse::parse;
 use pk_schema::Schema;
+use pk_syntax::{Statement, TableDecl};
 use pk_values::{LimitName, Memory, Refusal, Sort, Value, Words};
 use std::alloc::Global;
 use std::process::Abort;
@@ -41,6 +43,7 @@ pub(crate) fn declaration(alloc: Global, script: &[u8]) -> Result<TableDecl, Fai
 }
 
 fn first_declared(alloc: Global, pieces: &[Piece]) -> Result<TableDecl, Fail>
+    requires { All (λ piece. IsTrue (is_lexed piece)) pieces.now }
     ensures { IfOk result (λ decl. IsTrue (is_plain decl)) }
 {
     let piece = pieces.first().ok_or("no piece")?;

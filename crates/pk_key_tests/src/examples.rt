@@ -2,8 +2,8 @@
 
 use crate::declared::{assert_told, cut, question, schema, write_values};
 use pk_examples::{TwoRows, two_rows};
-use pk_parse::TableDecl;
 use pk_schema::{Schema, key_of};
+use pk_syntax::TableDecl;
 use pk_values::{ColSet, KeyDecl, Memory, Sort};
 use std::alloc::Global;
 use std::test::Fail;

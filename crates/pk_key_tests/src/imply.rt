@@ -4,8 +4,8 @@ ghost use Rattle.std.specs.Prelude.{◌<◌, ◌^◌, length};
 
 use crate::declared::{assert_told, cause, cut, digit, question, schema, sort_letter};
 use pk_imply::{AskErr, asked_key, cover, derive, implies};
-use pk_parse::TableDecl;
 use pk_schema::Schema;
+use pk_syntax::TableDecl;
 use pk_values::{ColSet, KeyDecl, Memory, Rule};
 use std::alloc::Global;
 use std::test::Fail;

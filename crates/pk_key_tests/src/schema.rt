@@ -1,8 +1,8 @@
 //! Declarations by their texts.
 
 use crate::declared::{assert_told, cause, cut, declaration, schema_of};
-use pk_parse::print_table;
 use pk_schema::{MakeErr, Schema};
+use pk_syntax::print_table;
 use pk_values::{Bytes, Memory, Name};
 use std::alloc::Global;
 use std::io::Write;

@@ -15,6 +15,7 @@ use Rattle.pk_lex.specs.Texts.{text_width, text_lexeme, unpaired, closed_text}
 use Rattle.pk_lex.specs.Lexemes.{is_blank, begins_comment, begins_word, symbol_lexeme, lexeme_at, more_at, line_behind, lexemes_from, lexemes}
 use Rattle.pk_lex.specs.Tokens.{is_token, ends_piece, stands_inside, is_body, is_lexed}
 use Rattle.pk_lex.specs.Pieces.{parts_of, first_fault, tokens_of, body_of, piece_of, pieces}
+use Rattle.pk_lex.proofs.LexemeLemmas.{word_is_name}
 
 -- Each token of a script is one.
 
@@ -45,7 +46,7 @@ lexeme_holds b behind =
     let holds : Lexeme → Type 0 = λ l. holds_token l ≡ true in
     cond_both (is_blank b) _ _ holds (λ _. refl)
     (λ _. cond_both (begins_comment (b ∷ behind)) _ _ holds (λ _. refl)
-    (λ _. cond_both (begins_word b) _ _ holds (λ _. refl)
+    (λ _. cond_both (begins_word b) _ _ holds (λ e. word_is_name b behind e)
     (λ _. cond_both (is_ascii_digit b) _ _ holds (λ e. and_from _ _ e (digits_pass behind))
     (λ _. cond_both (b == 39) _ _ holds (λ _. text_holds (text_width false behind) behind) (λ _. symbol_holds (b ∷ behind))))))
 

@@ -51,9 +51,13 @@ all_continue : (bs : List ℕ) → list_all continues_name (folded (take_while c
 all_continue [] = refl
 all_continue (b ∷ bs) = rw take_while-cons (elim (continues_word b) as (λ p. continues_word b ≡ p → list_all continues_name (folded (cond p (b ∷ take_while continues_word bs) [])) ≡ true) [ true ↦ λ e. and_from _ _ (continues_name_if b e) (all_continue bs) | false ↦ λ e. refl ] refl)
 
+-- what begins a word and what goes on with it, in small letters
+pub word_is_name : (b : ℕ) (behind : List ℕ) → begins_word b ≡ true → is_name (folded (b ∷ take_while continues_word behind)) ≡ true
+word_is_name b behind h = and_from _ _ (begins_name_if b h) (all_continue behind)
+
 pub is_name_if : (bytes : List ℕ) → begins_word (get_or bytes 0 0) ≡ true → is_name (folded (take_while continues_word bytes)) ≡ true
 is_name_if [] h = h
-is_name_if (b ∷ bs) h = let k = continues_if_begins b h in rw (take_while-cons, k) (and_from _ _ (begins_name_if b h) (all_continue bs))
+is_name_if (b ∷ bs) h = let k = continues_if_begins b h in rw (take_while-cons, k) (word_is_name b bs h)
 
 -- the name that a word spells
 pub name_of_word : (bytes : List ℕ) → begins_word (get_or bytes 0 0) ≡ true → name_of (take_while continues_word bytes) ≡ Some (folded (take_while continues_word bytes))

@@ -1,4 +1,4 @@
-use Rattle.std.specs.Prelude.{◌≡◌, ◌≢◌, ◌⊎◌, ℕ, ◌+◌, ◌<◌, ◌==◌, Bool, true, false, not, List, [], ◌∷◌, ◌++◌, length, take, drop, slice_index, slice_index_or, filter, codes, All, Option, Some, None, if◌then◌else◌}
+use Rattle.std.specs.Prelude.{◌≡◌, ◌≢◌, ◌⊎◌, ℕ, ◌+◌, ◌<◌, ◌==◌, Bool, true, false, not, List, [], ◌∷◌, ◌++◌, length, take, drop, slice_index, slice_index_or, filter, codes, All, IsTrue, Option, Some, None, if◌then◌else◌}
 use Rattle.std.specs.List.{flat_map, concat}
 use Rattle.pk_lex.specs.declared.token.Token.{Token}
 use Rattle.pk_lex.specs.declared.token.Token.TheVariants.{Word, Text, Symbol as Sign}
@@ -14,7 +14,7 @@ use Rattle.pk_lex.specs.declared.piece.Body.TheVariants.{Tokens, BadCharacter, U
 use Rattle.pk_lex.specs.Texts.{closed_text}
 use Rattle.pk_lex.specs.Lexemes.{front_of, line_feeds, lexemes}
 use Rattle.pk_lex.specs.Pieces.{first_fault, tokens_of, pieces_of, pieces}
-use Rattle.pk_lex.specs.Tokens.{ends_piece}
+use Rattle.pk_lex.specs.Tokens.{ends_piece, is_lexed}
 
 -- the tokens that a body holds
 abbrev pub body_tokens : Body → List Token
@@ -39,6 +39,10 @@ PiecesHoldTheTokens =
     (script : List ℕ) →
     first_fault (lexemes script) ≡ None →
     flat_map (λ (piece : Piece). body_tokens piece.body) (pieces script) ≡ filter (λ t. not (ends_piece t)) (tokens_of (lexemes script))
+
+-- Every piece of a script is one that a script may have.
+abbrev pub PiecesAreLexed : Type 0
+PiecesAreLexed = (script : List ℕ) → All (λ piece. IsTrue (is_lexed piece)) (pieces script)
 
 -- The first fault that the pieces of a script tell is the script's first fault.
 abbrev pub PiecesTellTheFirstFault : Type 0

@@ -2,6 +2,7 @@ use Rattle.std.specs.Prelude.{Bool, true, false, not, ◌&&◌, List, [], ◌∷
 use Rattle.std.specs.List.{list_all}
 use Rattle.std.specs.Char.{is_ascii_digit}
 use Rattle.std.specs.Str.{is_utf8}
+use Rattle.pk_values.specs.Name.{is_name}
 use Rattle.pk_lex.specs.declared.token.Token.{Token}
 use Rattle.pk_lex.specs.declared.token.Token.TheVariants.{Word, Number, Text, Symbol as Sign}
 use Rattle.pk_lex.specs.declared.token.Symbol.TheVariants.{Semicolon}
@@ -16,9 +17,9 @@ abbrev pub is_number : List ℕ → Bool
 is_number [] = false
 is_number (b ∷ bs) = list_all is_ascii_digit (b ∷ bs)
 
--- whether a script can hold it: a word is one by its type, a number is digits, a text is UTF-8
+-- whether a script can hold it: a word is a name, a number is digits, a text is UTF-8
 abbrev pub is_token : Token → Bool
-is_token (Word name) = true
+is_token (Word name) = is_name name
 is_token (Number digits) = is_number digits
 is_token (Text bytes) = is_utf8 bytes
 is_token (Sign symbol) = true

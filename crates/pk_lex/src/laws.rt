@@ -1,7 +1,13 @@
 //! What the pieces of a script are, in words that don't retrace how they are found. A law is a
 //! contract; its function does nothing.
 
-ghost use Rattle.pk_lex.specs.Laws.{PiecesHoldTheTokens, PiecesTellTheFirstFault, SemicolonsCut, LexemesStandOnTheirLines, LexemesFillTheScript, QuotedBytesAreTexts, QuotesBeginTexts, TextsBeginWithQuotes, ExampleIsCut};
+ghost use Rattle.pk_lex.specs.Laws.{PiecesAreLexed, PiecesHoldTheTokens, PiecesTellTheFirstFault, SemicolonsCut, LexemesStandOnTheirLines, LexemesFillTheScript, QuotedBytesAreTexts, QuotesBeginTexts, TextsBeginWithQuotes, ExampleIsCut};
+
+/// Each piece of a script, whatever its bytes, holds a fault or at least one token, each a token that a script can
+/// hold: words are names, numbers are digits and texts are UTF-8.
+pub fn pieces_are_lexed()
+    ensures { PiecesAreLexed }
+{}
 
 /// Where a script has no fault, its pieces hold its tokens other than `;`, all of them and in order.
 pub fn pieces_hold_the_tokens()

@@ -19,9 +19,9 @@ mod token;
 
 pub use digits::Digits;
 pub use laws::{
-    example_is_cut, lexemes_fill_the_script, lexemes_stand_on_their_lines, pieces_hold_the_tokens,
-    pieces_tell_the_first_fault, quoted_bytes_are_texts, quotes_begin_texts, semicolons_cut,
-    texts_begin_with_quotes,
+    example_is_cut, lexemes_fill_the_script, lexemes_stand_on_their_lines, pieces_are_lexed,
+    pieces_hold_the_tokens, pieces_tell_the_first_fault, quoted_bytes_are_texts,
+    quotes_begin_texts, semicolons_cut, texts_begin_with_quotes,
 };
 pub use lexing::lex;
 pub use piece::{Body, Piece};

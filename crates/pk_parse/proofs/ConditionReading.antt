@@ -4,7 +4,7 @@ use Rattle.std.proofs.lemmas.List.{append-nil, length-append}
 use Rattle.std.proofs.lemmas.Option.{some_pair_parts}
 use Rattle.pk_lex.specs.declared.token.Token.{Token}
 use Rattle.pk_lex.specs.declared.token.Token.TheVariants.{Word}
-use Rattle.pk_parse.specs.declared.condition.Test.{Test}
+use Rattle.pk_syntax.specs.declared.condition.Test.{Test}
 use Rattle.pk_parse.specs.declared.conditions.Joint.{Joint}
 use Rattle.pk_parse.specs.Tokens.{Found, behind_or, after_word}
 use Rattle.pk_parse.specs.Lists.{item_then}

@@ -9,14 +9,14 @@ use Rattle.pk_values.specs.declared.key.Sort.TheVariants.{Certain, Possible}
 use Rattle.pk_lex.specs.declared.token.Token.{Token}
 use Rattle.pk_lex.specs.declared.token.Token.TheVariants.{Word, Number, Symbol as Sign}
 use Rattle.pk_lex.specs.declared.token.Symbol.TheVariants.{LeftParen, RightParen, Comma}
-use Rattle.pk_parse.specs.declared.declaration.KeyText.{KeyText}
+use Rattle.pk_syntax.specs.declared.declaration.KeyText.{KeyText}
 use Rattle.pk_parse.specs.declared.table_part.TablePart.{TablePart}
 use Rattle.pk_parse.specs.declared.table_part.TablePart.TheVariants.{Column, Key}
 use Rattle.pk_parse.specs.declared.table_part.ColumnForm.{ColumnForm}
 use Rattle.pk_parse.specs.declared.table_part.KeyPart.{KeyPart}
 use Rattle.pk_parse.specs.declared.table_part.Mark.{Mark}
 use Rattle.pk_parse.specs.declared.table_part.Mark.TheVariants.{NotNull, Unique, Primary}
-use Rattle.pk_parse.specs.Words.{is_reserved, reserved}
+use Rattle.pk_syntax.specs.Words.{is_reserved, reserved}
 use Rattle.pk_parse.specs.Tokens.{Found, after_word, after_symbol, name_at, digits_at}
 use Rattle.pk_parse.specs.Literals.{number_of}
 use Rattle.pk_parse.specs.Lists.{names_at}

@@ -8,7 +8,7 @@ use Rattle.pk_lex.specs.declared.token.Token.TheVariants.{Word, Number, Text, Sy
 use Rattle.pk_lex.specs.declared.token.Symbol.{Symbol}
 use Rattle.pk_lex.specs.declared.token.Symbol.TheVariants.{LeftParen, RightParen, Comma, Semicolon, Star, Equal, Less, Greater, AtMost, AtLeast, UnequalAngle, UnequalBang, Minus}
 use Rattle.pk_lex.specs.Symbols.{spelling, symbol_at}
-use Rattle.pk_parse.specs.Words.{is_reserved}
+use Rattle.pk_syntax.specs.Words.{is_reserved}
 use Rattle.pk_parse.specs.Tokens.{Found, ◌>>=◌, behind_or, after_word, after_symbol, name_at, digits_at}
 use Rattle.pk_parse.specs.LiteralGrammar.{IsFree}
 

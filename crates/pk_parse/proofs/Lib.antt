@@ -2,7 +2,6 @@ pub mod ListReading
 pub mod Numbers
 pub mod MarkReading
 pub mod Marks
-pub mod PrimarySets
 pub mod Fronts
 pub mod CommaLists
 pub mod PartReading
@@ -13,9 +12,9 @@ pub mod WhereReading
 pub mod CreateReading
 pub mod QueryReading
 pub mod StatementReading
-pub mod PrintLemmas
+pub mod TokensGiven
 pub mod TextsGiven
-pub mod PlainGiven
+pub mod DeclarationGiven
+pub mod NumbersGiven
 pub mod StatementGiven
 pub mod PrintReading
-mod WordLemmas

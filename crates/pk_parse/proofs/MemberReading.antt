@@ -5,7 +5,7 @@ use Rattle.std.proofs.lemmas.List.{append-nil}
 use Rattle.std.proofs.lemmas.Option.{some_pair_parts}
 use Rattle.pk_lex.specs.declared.token.Token.{Token}
 use Rattle.pk_lex.specs.declared.token.Symbol.TheVariants.{LeftParen}
-use Rattle.pk_parse.specs.declared.condition.Test.{Test}
+use Rattle.pk_syntax.specs.declared.condition.Test.{Test}
 use Rattle.pk_parse.specs.declared.conditions.Joint.{Joint}
 use Rattle.pk_parse.specs.declared.conditions.Joint.TheVariants.{And, Or}
 use Rattle.pk_parse.specs.declared.miss.Miss.{Miss}

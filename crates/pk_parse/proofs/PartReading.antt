@@ -4,9 +4,9 @@ use Rattle.std.specs.Prelude.{codes}
 use Rattle.pk_lex.specs.declared.token.Token.{Token}
 use Rattle.pk_lex.specs.declared.token.Token.TheVariants.{Word, Number, Text, Symbol as Sign}
 use Rattle.pk_lex.specs.declared.token.Symbol.TheVariants.{LeftParen, RightParen, Comma, Equal, Minus}
-use Rattle.pk_parse.specs.declared.literal.Literal.{Literal}
-use Rattle.pk_parse.specs.declared.literal.Literal.TheVariants as literals
-use Rattle.pk_parse.specs.declared.edit.SetPart.{SetPart}
+use Rattle.pk_syntax.specs.declared.literal.Literal.{Literal}
+use Rattle.pk_syntax.specs.declared.literal.Literal.TheVariants as literals
+use Rattle.pk_syntax.specs.declared.edit.SetPart.{SetPart}
 use Rattle.pk_parse.specs.Tokens.{after_word, after_symbol, name_at, digits_at}
 use Rattle.pk_parse.specs.Literals.{number_of, plain_number, negative_number, null_at, negative_at, literal_at}
 use Rattle.pk_parse.specs.Lists.{parens_at, names_at}

@@ -24,23 +24,23 @@ use Rattle.pk_lex.specs.Lexemes.{lexeme_at, more_at}
 use Rattle.pk_lex.specs.Symbols.{symbol_at}
 use Rattle.pk_lex.specs.Pieces.{pieces}
 use Rattle.pk_lex.proofs.Spelling.{Anything, Breaks, Spells, EachSpells, spells_both, spells_nothing, spells_word, spells_name, spells_number, spells_joined, spells_behind, commas_break, spelled_piece}
-use Rattle.pk_parse.specs.declared.declaration.TableDecl.{TableDecl}
-use Rattle.pk_parse.specs.declared.declaration.ColumnDecl.{ColumnDecl}
-use Rattle.pk_parse.specs.declared.declaration.KeyText.{KeyText}
+use Rattle.pk_syntax.specs.declared.declaration.TableDecl.{TableDecl}
+use Rattle.pk_syntax.specs.declared.declaration.ColumnDecl.{ColumnDecl}
+use Rattle.pk_syntax.specs.declared.declaration.KeyText.{KeyText}
 use Rattle.pk_parse.specs.declared.table_part.TablePart.{TablePart}
 use Rattle.pk_parse.specs.declared.table_part.TablePart.TheVariants.{Column, Key}
 use Rattle.pk_parse.specs.declared.table_part.ColumnText.{ColumnText}
 use Rattle.pk_parse.specs.declared.table_part.KeyPart.{KeyPart}
 use Rattle.pk_parse.specs.declared.table_part.Mark.{Mark}
 use Rattle.pk_parse.specs.declared.table_part.Mark.TheVariants.{NotNull}
-use Rattle.pk_parse.specs.Words.{is_reserved}
+use Rattle.pk_syntax.specs.Words.{is_reserved}
 use Rattle.pk_parse.specs.Literals.{with_digit, number_of}
 use Rattle.pk_parse.specs.Create.{key_of_mark, keys_of, columns_of, is_not_null, is_primary, declared_column, declared_columns, declared_by, text_form, declared}
 use Rattle.pk_parse.specs.Grammar.{Joined, IsName, IsNames, IsForm, IsMark, AreMarks, IsKey, IsKeyPart, IsPart, IsStatement}
-use Rattle.pk_parse.specs.Declarations.{has_name, has_column, names_of, in_column_order, names_in, is_plain_length}
-use Rattle.pk_parse.specs.Printing.{text_type, type_text, null_text, column_text, sort_text, key_text, table_text}
-use Rattle.pk_parse.specs.declared.statement.Statement.{Statement}
-use Rattle.pk_parse.specs.declared.statement.Statement.TheVariants.{Create}
+use Rattle.pk_syntax.specs.Declarations.{has_name, has_column, names_of, in_column_order, names_in, is_plain_length}
+use Rattle.pk_syntax.specs.Printing.{text_type, type_text, null_text, column_text, sort_text, key_text, table_text}
+use Rattle.pk_syntax.specs.declared.statement.Statement.{Statement}
+use Rattle.pk_syntax.specs.declared.statement.Statement.TheVariants.{Create}
 use Rattle.pk_parse.specs.declared.parsing.ParseErr.{ParseErr}
 use Rattle.pk_parse.specs.Statements.{read}
 use Rattle.pk_parse.specs.Parsed.{parsed}

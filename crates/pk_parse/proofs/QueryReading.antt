@@ -7,10 +7,10 @@ use Rattle.std.proofs.lemmas.Slice.Eq.{bytes_eq-Decides}
 use Rattle.pk_lex.specs.declared.token.Token.{Token}
 use Rattle.pk_lex.specs.declared.token.Token.TheVariants.{Word, Symbol as Sign}
 use Rattle.pk_lex.specs.declared.token.Symbol.TheVariants.{LeftParen, RightParen, Comma, Star}
-use Rattle.pk_parse.specs.declared.query.What.{What}
-use Rattle.pk_parse.specs.declared.query.What.TheVariants.{All, Columns, Count}
-use Rattle.pk_parse.specs.declared.query.OrderPart.{OrderPart}
-use Rattle.pk_parse.specs.Words.{is_reserved, reserved}
+use Rattle.pk_syntax.specs.declared.query.What.{What}
+use Rattle.pk_syntax.specs.declared.query.What.TheVariants.{All, Columns, Count}
+use Rattle.pk_syntax.specs.declared.query.OrderPart.{OrderPart}
+use Rattle.pk_syntax.specs.Words.{is_reserved, reserved}
 use Rattle.pk_parse.specs.Tokens.{behind_or, after_word, after_symbol, name_at}
 use Rattle.pk_parse.specs.Lists.{list_at}
 use Rattle.pk_parse.specs.Queries.{count_at, columns_at, what_at, direction_at, order_part_at, order_by_at, order_at, order_of_at}

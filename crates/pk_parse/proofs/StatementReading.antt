@@ -7,15 +7,15 @@ use Rattle.std.proofs.lemmas.Slice.Eq.{bytes_eq-Decides}
 use Rattle.pk_lex.specs.declared.token.Token.{Token}
 use Rattle.pk_lex.specs.declared.token.Token.TheVariants.{Word, Number, Text, Symbol as Sign}
 use Rattle.pk_lex.specs.declared.token.Symbol.TheVariants.{LeftParen}
-use Rattle.pk_parse.specs.declared.statement.Statement.{Statement}
-use Rattle.pk_parse.specs.declared.statement.Statement.TheVariants.{Create, Drop, Insert, Update, Delete, Select, Begin, Commit, Rollback, Session, Show, Implies, Cover, Examples, Discover, Checkpoint}
-use Rattle.pk_parse.specs.declared.declaration.TableDecl.{TableDecl}
-use Rattle.pk_parse.specs.declared.declaration.KeyText.{KeyText}
-use Rattle.pk_parse.specs.declared.condition.Test.{Test}
-use Rattle.pk_parse.specs.declared.edit.SetPart.{SetPart}
-use Rattle.pk_parse.specs.declared.literal.Literal.{Literal}
-use Rattle.pk_parse.specs.declared.query.What.{What}
-use Rattle.pk_parse.specs.declared.query.OrderPart.{OrderPart}
+use Rattle.pk_syntax.specs.declared.statement.Statement.{Statement}
+use Rattle.pk_syntax.specs.declared.statement.Statement.TheVariants.{Create, Drop, Insert, Update, Delete, Select, Begin, Commit, Rollback, Session, Show, Implies, Cover, Examples, Discover, Checkpoint}
+use Rattle.pk_syntax.specs.declared.declaration.TableDecl.{TableDecl}
+use Rattle.pk_syntax.specs.declared.declaration.KeyText.{KeyText}
+use Rattle.pk_syntax.specs.declared.condition.Test.{Test}
+use Rattle.pk_syntax.specs.declared.edit.SetPart.{SetPart}
+use Rattle.pk_syntax.specs.declared.literal.Literal.{Literal}
+use Rattle.pk_syntax.specs.declared.query.What.{What}
+use Rattle.pk_syntax.specs.declared.query.OrderPart.{OrderPart}
 use Rattle.pk_parse.specs.declared.table_part.TablePart.{TablePart}
 use Rattle.pk_parse.specs.Tokens.{Found, after_word, after_symbol, name_at}
 use Rattle.pk_parse.specs.Lists.{list_at, parens_at, names_at}

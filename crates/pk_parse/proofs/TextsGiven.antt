@@ -5,20 +5,20 @@ use Rattle.std.specs.List.{list_all}
 use Rattle.std.proofs.lemmas.List.Folds.{list_all-append, list_all-map}
 use Rattle.pk_lex.specs.declared.token.Token.{Token}
 use Rattle.pk_lex.specs.declared.token.Token.TheVariants.{Word, Symbol as Sign}
-use Rattle.pk_lex.specs.declared.token.Symbol.TheVariants.{RightParen, Comma}
+use Rattle.pk_lex.specs.declared.token.Symbol.TheVariants.{RightParen, Comma, Equal}
 use Rattle.pk_lex.specs.declared.piece.Body.TheVariants.{Tokens}
 use Rattle.pk_lex.specs.Tokens.{is_token, ends_piece, stands_inside, is_body}
-use Rattle.pk_parse.specs.declared.statement.Statement.{Statement}
-use Rattle.pk_parse.specs.declared.edit.SetPart.{SetPart}
-use Rattle.pk_parse.specs.declared.literal.Literal.{Literal}
-use Rattle.pk_parse.specs.declared.literal.Literal.TheVariants as literals
-use Rattle.pk_parse.specs.declared.condition.Op.{Op}
-use Rattle.pk_parse.specs.declared.condition.Operand.{Operand}
-use Rattle.pk_parse.specs.declared.condition.Test.{Test}
-use Rattle.pk_parse.specs.declared.condition.Test.TheVariants as tests
-use Rattle.pk_parse.specs.declared.condition.Test.TheVariants.{rolls-Compare, rolls-IsNull, rolls-Not, rolls-All, rolls-Any}
-use Rattle.pk_parse.specs.declared.condition.Test.TheOpen as layers
-use Rattle.pk_parse.specs.declared.condition.Test.TheFolds.{fold-roll-Test}
+use Rattle.pk_syntax.specs.declared.statement.Statement.{Statement}
+use Rattle.pk_syntax.specs.declared.edit.SetPart.{SetPart}
+use Rattle.pk_syntax.specs.declared.literal.Literal.{Literal}
+use Rattle.pk_syntax.specs.declared.literal.Literal.TheVariants as literals
+use Rattle.pk_syntax.specs.declared.condition.Op.{Op}
+use Rattle.pk_syntax.specs.declared.condition.Operand.{Operand}
+use Rattle.pk_syntax.specs.declared.condition.Test.{Test}
+use Rattle.pk_syntax.specs.declared.condition.Test.TheVariants as tests
+use Rattle.pk_syntax.specs.declared.condition.Test.TheVariants.{rolls-Compare, rolls-IsNull, rolls-Not, rolls-All, rolls-Any}
+use Rattle.pk_syntax.specs.declared.condition.Test.TheOpen as layers
+use Rattle.pk_syntax.specs.declared.condition.Test.TheFolds.{fold-roll-Test}
 use Rattle.pk_parse.specs.declared.conditions.Joint.{Joint}
 use Rattle.pk_parse.specs.declared.conditions.Joint.TheVariants.{And, Or}
 use Rattle.pk_parse.specs.Literals.{number_of}
@@ -29,25 +29,9 @@ use Rattle.pk_parse.specs.ConditionGrammar as conditions
 use Rattle.pk_parse.specs.Where.{IsWhere}
 use Rattle.pk_parse.specs.Grammar.{Joined, IsTuple, IsSet, IsStatement}
 use Rattle.pk_parse.specs.Grammar as grammar
-use Rattle.pk_parse.specs.Given.{has_utf8, operand_has_utf8, test_step, test_has_utf8, cond_has_utf8, texts_are_utf8}
+use Rattle.pk_parse.proofs.TokensGiven.{AreTokens, split_tokens, behind_token, behind_two, behind_three, joined_given, parens_given}
+use Rattle.pk_syntax.specs.Given.{has_utf8, operand_has_utf8, test_step, test_has_utf8, cond_has_utf8, texts_are_utf8}
 use Rattle.std.proofs.lemmas.Bool.{and_parts}
-
--- each is a token
-abbrev pub AreTokens : List Token → Type 0
-AreTokens tokens = list_all is_token tokens ≡ true
-
-split_tokens : (front behind : List Token) → AreTokens (front ++ behind) → AreTokens front × AreTokens behind
-split_tokens front behind are = let parts = and_parts (list_all is_token front) (list_all is_token behind) (sym (list_all-append is_token front behind) ∙ are) in (parts.0, parts.1)
-
-inside_tokens : (tokens : List Token) → list_all stands_inside tokens ≡ true → AreTokens tokens
-inside_tokens [] e = refl
-inside_tokens (t ∷ ts) e =
-    let parts = and_parts (stands_inside t) (list_all stands_inside ts) e in
-    rw ((and_parts (is_token t) (not (ends_piece t)) parts.0).0) (inside_tokens ts parts.1)
-
-pub piece_tokens : (tokens : List Token) → is_body (Tokens tokens) ≡ true → AreTokens tokens
-piece_tokens [] e = refl
-piece_tokens (t ∷ ts) e = inside_tokens (t ∷ ts) e
 
 -- ---- literals and lists
 
@@ -61,22 +45,11 @@ literal_given tokens l (plain digits) are = number_given (nat_le (number_of digi
 literal_given tokens l (negative digits) are = number_given (nat_le (number_of digits) (2 ^ 63)) (literals.Number (neg_ℤ (pos (number_of digits)))) refl
 literal_given tokens l (quoted bytes) are = (and_parts _ true are).0
 
--- what is so of each item is so of all of a list
-pub joined_given : {A : Type 0} (Is : List Token → A → Type 0) (good : A → Bool) → ((tokens : List Token) (x : A) → Is tokens x → AreTokens tokens → good x ≡ true)
-    → (xs : List A) (tokens : List Token) → Joined Is tokens xs → AreTokens tokens → list_all good xs ≡ true
-joined_given Is good each [] tokens joined are = absurd joined
-joined_given Is good each (x ∷ []) tokens joined are = rw (each tokens x joined are) refl
-joined_given Is good each (x ∷ y ∷ ys) tokens joined are =
-    let parts = split_tokens joined.0 (Sign Comma ∷ joined.1) (subst AreTokens joined.2 are) in
-    rw (each joined.0 x joined.3 parts.0) (joined_given Is good each (y ∷ ys) joined.1 joined.4 parts.1)
-
 tuple_given : (tokens : List Token) (row : List Literal) → IsTuple tokens row → AreTokens tokens → list_all has_utf8 row ≡ true
-tuple_given tokens row parens are =
-    let inside = split_tokens parens.0 (Sign RightParen ∷ []) (subst AreTokens parens.1 are) in
-    joined_given IsLiteral has_utf8 literal_given row parens.0 parens.2 inside.0
+tuple_given tokens row parens are = parens_given IsLiteral has_utf8 literal_given row tokens parens are
 
 set_given : (tokens : List Token) (s : SetPart) → IsSet tokens s → AreTokens tokens → has_utf8 s.value ≡ true
-set_given tokens s (grammar.sets column behind value free is) are = literal_given behind value is are
+set_given tokens s (grammar.sets column behind value free is) are = literal_given behind value is (behind_token (Word column) (Sign Equal ∷ behind) are)
 
 -- ---- conditions
 
@@ -104,7 +77,7 @@ members_given word Is each [] tokens joined are = absurd joined
 members_given word Is each (t ∷ []) tokens joined are = rw (each tokens t joined are) refl
 members_given word Is each (t ∷ u ∷ us) tokens joined are =
     let parts = split_tokens joined.0 (Word word ∷ joined.1) (subst AreTokens joined.2 are) in
-    rw (each joined.0 t joined.3 parts.0) (members_given word Is each (u ∷ us) joined.1 joined.4 parts.1)
+    rw (each joined.0 t joined.3 parts.0) (members_given word Is each (u ∷ us) joined.1 joined.4 (behind_token (Word word) joined.1 parts.1))
 
 grouped_given : (joint : Joint) (members : List Test) → list_all test_has_utf8 members ≡ true → test_has_utf8 (grouped joint members) ≡ true
 grouped_given And [] all = all_texts [] ∙ all
@@ -124,10 +97,10 @@ operand_given tokens operand (conditions.known ts literal is) are = literal_give
 operand_given tokens operand (conditions.column name free) are = refl
 
 over_given : (IsDeeper : List Token → Test → Type 0) → Given IsDeeper → Given (IsUnitOver IsDeeper)
-over_given IsDeeper deeper tokens t (conditions.compares name symbol op ts operand free stands is) are = compare_texts name op operand ∙ operand_given ts operand is are
+over_given IsDeeper deeper tokens t (conditions.compares name symbol op ts operand free stands is) are = compare_texts name op operand ∙ operand_given ts operand is (behind_token (Word name) (Sign symbol ∷ ts) are)
 over_given IsDeeper deeper tokens t (conditions.is_null name free) are = null_texts name false
 over_given IsDeeper deeper tokens t (conditions.is_not_null name free) are = null_texts name true
-over_given IsDeeper deeper tokens t (conditions.denies ts member is) are = not_texts member ∙ deeper ts member is are
+over_given IsDeeper deeper tokens t (conditions.denies ts member is) are = not_texts member ∙ deeper ts member is (behind_token (Word (codes "not")) ts are)
 over_given IsDeeper deeper tokens t (conditions.encloses ts inner is) are = cond_of_given IsDeeper deeper ts inner is (split_tokens ts (Sign RightParen ∷ []) are).0
 
 unit_given : (levels : ℕ) → Given (IsUnit levels)
@@ -141,7 +114,7 @@ condition_given = cond_of_given (IsUnit 65) (unit_given 65)
 
 where_given : (tokens : List Token) (c : Option Test) → IsWhere tokens c → AreTokens tokens → cond_has_utf8 c ≡ true
 where_given tokens c IsWhere.all_rows are = refl
-where_given tokens c (IsWhere.tested ts t is) are = condition_given ts t is are
+where_given tokens c (IsWhere.tested ts t is) are = condition_given ts t is (behind_token (Word (codes "where")) ts are)
 
 -- ---- statements
 
@@ -149,14 +122,16 @@ pub texts_given : (tokens : List Token) (s : Statement) → IsStatement tokens s
 texts_given tokens s (grammar.create table ts parts decl free is declares) are = refl
 texts_given tokens s (grammar.drop table free) are = refl
 texts_given tokens s (grammar.insert table listed tuples columns rows free lists joined) are =
-    joined_given IsTuple (list_all has_utf8) tuple_given rows tuples joined (split_tokens listed (Word (codes "values") ∷ tuples) are).1
+    let parts = split_tokens listed (Word (codes "values") ∷ tuples) (behind_three (codes "insert") (codes "into") table (listed ++ (Word (codes "values") ∷ tuples)) are) in
+    joined_given IsTuple (list_all has_utf8) tuple_given rows tuples joined (behind_token (Word (codes "values")) tuples parts.1)
 texts_given tokens s (grammar.update table parts behind assigned c free joined tested) are =
-    let halves = split_tokens parts behind are in
+    let halves = split_tokens parts behind (behind_three (codes "update") table (codes "set") (parts ++ behind) are) in
     rw (joined_given IsSet (λ (p : SetPart). has_utf8 p.value) set_given assigned parts joined halves.0) (where_given behind c tested halves.1)
-texts_given tokens s (grammar.delete table behind c free tested) are = where_given behind c tested are
+texts_given tokens s (grammar.delete table behind c free tested) are = where_given behind c tested (behind_three (codes "delete") (codes "from") table behind are)
 texts_given tokens s (grammar.select table asked tested ordered what c order free asks tests orders) are =
-    let behind = split_tokens asked (Word (codes "from") ∷ Word table ∷ tested ++ ordered) are in
-    where_given tested c tests (split_tokens tested ordered behind.1).0
+    let parts = split_tokens asked (Word (codes "from") ∷ Word table ∷ tested ++ ordered) (behind_token (Word (codes "select")) (asked ++ (Word (codes "from") ∷ Word table ∷ tested ++ ordered)) are) in
+    let behind = behind_token (Word table) (tested ++ ordered) (behind_token (Word (codes "from")) (Word table ∷ tested ++ ordered) parts.1) in
+    where_given tested c tests (split_tokens tested ordered behind).0
 texts_given tokens s grammar.begin are = refl
 texts_given tokens s grammar.commit are = refl
 texts_given tokens s grammar.rollback are = refl

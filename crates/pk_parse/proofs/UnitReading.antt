@@ -8,16 +8,16 @@ use Rattle.pk_lex.specs.declared.token.Token.{Token}
 use Rattle.pk_lex.specs.declared.token.Token.TheVariants.{Word, Number, Text, Symbol as Sign}
 use Rattle.pk_lex.specs.declared.token.Symbol.{Symbol}
 use Rattle.pk_lex.specs.declared.token.Symbol.TheVariants.{LeftParen, RightParen}
-use Rattle.pk_parse.specs.declared.literal.Literal.{Literal}
-use Rattle.pk_parse.specs.declared.condition.Op.{Op}
-use Rattle.pk_parse.specs.declared.condition.Operand.{Operand}
-use Rattle.pk_parse.specs.declared.condition.Operand.TheVariants.{Known, Column}
-use Rattle.pk_parse.specs.declared.condition.Test.{Test}
-use Rattle.pk_parse.specs.declared.condition.Test.TheVariants.{Compare, IsNull, Not}
+use Rattle.pk_syntax.specs.declared.literal.Literal.{Literal}
+use Rattle.pk_syntax.specs.declared.condition.Op.{Op}
+use Rattle.pk_syntax.specs.declared.condition.Operand.{Operand}
+use Rattle.pk_syntax.specs.declared.condition.Operand.TheVariants.{Known, Column}
+use Rattle.pk_syntax.specs.declared.condition.Test.{Test}
+use Rattle.pk_syntax.specs.declared.condition.Test.TheVariants.{Compare, IsNull, Not}
 use Rattle.pk_parse.specs.declared.conditions.Joint.TheVariants.{And, Or}
 use Rattle.pk_parse.specs.Tokens.{Found, behind_or, after_word, after_symbol, name_at}
 use Rattle.pk_parse.specs.Literals.{null_at, literal_at}
-use Rattle.pk_parse.specs.Words.{is_reserved, reserved}
+use Rattle.pk_syntax.specs.Words.{is_reserved, reserved}
 use Rattle.pk_parse.specs.LiteralGrammar.{IsFree}
 use Rattle.pk_parse.specs.Conditions.{op_of, op_at, known_or, column_operand, operand_at, comparison_at, null_behind, null_test_at, column_test_at, word_of, joined_at, member_at, negation_at, inside_at, unit_over, unit_at, condition_at}
 use Rattle.pk_parse.specs.ConditionGrammar.{IsOperand, IsJoined, IsCondOf, IsUnitOver, IsUnit, IsCondition, ReadsConditions}

@@ -4,7 +4,7 @@ use Rattle.std.specs.Prelude.{codes}
 use Rattle.std.proofs.lemmas.Option.{some_pair_parts}
 use Rattle.pk_lex.specs.declared.token.Token.{Token}
 use Rattle.pk_lex.specs.declared.token.Token.TheVariants.{Word}
-use Rattle.pk_parse.specs.declared.condition.Test.{Test}
+use Rattle.pk_syntax.specs.declared.condition.Test.{Test}
 use Rattle.pk_parse.specs.Tokens.{behind_or, after_word, after_symbol}
 use Rattle.pk_parse.specs.Conditions.{condition_at}
 use Rattle.pk_parse.specs.ConditionGrammar.{EndsCondition}

@@ -2,10 +2,10 @@ use Rattle.std.specs.Prelude.{◌≡◌, ℕ, true, false, List, [], ◌∷◌, 
 use Rattle.pk_lex.specs.declared.token.Token.{Token}
 use Rattle.pk_lex.specs.declared.token.Token.TheVariants.{Word, Number, Symbol as Sign}
 use Rattle.pk_lex.specs.declared.token.Symbol.TheVariants.{LeftParen, RightParen, AtMost}
-use Rattle.pk_parse.specs.declared.literal.Literal.TheVariants as literals
-use Rattle.pk_parse.specs.declared.condition.Op.TheVariants as ops
-use Rattle.pk_parse.specs.declared.condition.Operand.TheVariants.{Known, Column}
-use Rattle.pk_parse.specs.declared.condition.Test.TheVariants.{Compare, IsNull, Not, All, Any}
+use Rattle.pk_syntax.specs.declared.literal.Literal.TheVariants as literals
+use Rattle.pk_syntax.specs.declared.condition.Op.TheVariants as ops
+use Rattle.pk_syntax.specs.declared.condition.Operand.TheVariants.{Known, Column}
+use Rattle.pk_syntax.specs.declared.condition.Test.TheVariants.{Compare, IsNull, Not, All, Any}
 use Rattle.pk_parse.specs.Conditions.{unit_at, condition_at}
 
 -- Conditions at their edges, computed.

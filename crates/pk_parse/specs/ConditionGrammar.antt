@@ -3,12 +3,12 @@ use Rattle.pk_lex.specs.declared.token.Token.{Token}
 use Rattle.pk_lex.specs.declared.token.Token.TheVariants.{Word, Symbol as Sign}
 use Rattle.pk_lex.specs.declared.token.Symbol.{Symbol}
 use Rattle.pk_lex.specs.declared.token.Symbol.TheVariants.{LeftParen, RightParen}
-use Rattle.pk_parse.specs.declared.literal.Literal.{Literal}
-use Rattle.pk_parse.specs.declared.condition.Op.{Op}
-use Rattle.pk_parse.specs.declared.condition.Operand.{Operand}
-use Rattle.pk_parse.specs.declared.condition.Operand.TheVariants.{Known, Column}
-use Rattle.pk_parse.specs.declared.condition.Test.{Test}
-use Rattle.pk_parse.specs.declared.condition.Test.TheVariants.{Compare, IsNull, Not}
+use Rattle.pk_syntax.specs.declared.literal.Literal.{Literal}
+use Rattle.pk_syntax.specs.declared.condition.Op.{Op}
+use Rattle.pk_syntax.specs.declared.condition.Operand.{Operand}
+use Rattle.pk_syntax.specs.declared.condition.Operand.TheVariants.{Known, Column}
+use Rattle.pk_syntax.specs.declared.condition.Test.{Test}
+use Rattle.pk_syntax.specs.declared.condition.Test.TheVariants.{Compare, IsNull, Not}
 use Rattle.pk_parse.specs.declared.conditions.Joint.{Joint}
 use Rattle.pk_parse.specs.declared.conditions.Joint.TheVariants.{And, Or}
 use Rattle.pk_parse.specs.Tokens.{after_word}

@@ -3,13 +3,13 @@ use Rattle.pk_lex.specs.declared.token.Token.{Token}
 use Rattle.pk_lex.specs.declared.token.Token.TheVariants.{Symbol as Sign}
 use Rattle.pk_lex.specs.declared.token.Symbol.{Symbol}
 use Rattle.pk_lex.specs.declared.token.Symbol.TheVariants as symbols
-use Rattle.pk_parse.specs.declared.literal.Literal.{Literal}
-use Rattle.pk_parse.specs.declared.condition.Op.{Op}
-use Rattle.pk_parse.specs.declared.condition.Op.TheVariants as ops
-use Rattle.pk_parse.specs.declared.condition.Operand.{Operand}
-use Rattle.pk_parse.specs.declared.condition.Operand.TheVariants.{Known, Column}
-use Rattle.pk_parse.specs.declared.condition.Test.{Test}
-use Rattle.pk_parse.specs.declared.condition.Test.TheVariants.{Compare, IsNull, Not, All, Any}
+use Rattle.pk_syntax.specs.declared.literal.Literal.{Literal}
+use Rattle.pk_syntax.specs.declared.condition.Op.{Op}
+use Rattle.pk_syntax.specs.declared.condition.Op.TheVariants as ops
+use Rattle.pk_syntax.specs.declared.condition.Operand.{Operand}
+use Rattle.pk_syntax.specs.declared.condition.Operand.TheVariants.{Known, Column}
+use Rattle.pk_syntax.specs.declared.condition.Test.{Test}
+use Rattle.pk_syntax.specs.declared.condition.Test.TheVariants.{Compare, IsNull, Not, All, Any}
 use Rattle.pk_parse.specs.declared.conditions.Joint.{Joint}
 use Rattle.pk_parse.specs.declared.conditions.Joint.TheVariants.{And, Or}
 use Rattle.pk_parse.specs.Tokens.{Found, ◌>>=◌, behind_or, after_word, after_symbol, name_at}

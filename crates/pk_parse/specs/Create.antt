@@ -6,11 +6,11 @@ use Rattle.pk_values.specs.declared.key.Sort.{Sort}
 use Rattle.pk_values.specs.declared.key.Sort.TheVariants.{Certain, Possible}
 use Rattle.pk_lex.specs.declared.token.Token.{Token}
 use Rattle.pk_lex.specs.declared.token.Symbol.TheVariants.{LeftParen, RightParen}
-use Rattle.pk_parse.specs.declared.statement.Statement.{Statement}
-use Rattle.pk_parse.specs.declared.statement.Statement.TheVariants as statements
-use Rattle.pk_parse.specs.declared.declaration.TableDecl.{TableDecl}
-use Rattle.pk_parse.specs.declared.declaration.ColumnDecl.{ColumnDecl}
-use Rattle.pk_parse.specs.declared.declaration.KeyText.{KeyText}
+use Rattle.pk_syntax.specs.declared.statement.Statement.{Statement}
+use Rattle.pk_syntax.specs.declared.statement.Statement.TheVariants as statements
+use Rattle.pk_syntax.specs.declared.declaration.TableDecl.{TableDecl}
+use Rattle.pk_syntax.specs.declared.declaration.ColumnDecl.{ColumnDecl}
+use Rattle.pk_syntax.specs.declared.declaration.KeyText.{KeyText}
 use Rattle.pk_parse.specs.declared.table_part.TablePart.{TablePart}
 use Rattle.pk_parse.specs.declared.table_part.TablePart.TheVariants.{Column, Key}
 use Rattle.pk_parse.specs.declared.table_part.ColumnText.{ColumnText}

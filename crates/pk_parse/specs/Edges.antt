@@ -4,8 +4,8 @@ use Rattle.pk_values.specs.declared.key.Sort.TheVariants.{Certain, Possible}
 use Rattle.pk_lex.specs.declared.token.Token.{Token}
 use Rattle.pk_lex.specs.declared.token.Token.TheVariants.{Word, Number, Symbol as Sign}
 use Rattle.pk_lex.specs.declared.token.Symbol.TheVariants.{LeftParen, RightParen, Minus}
-use Rattle.pk_parse.specs.declared.statement.Statement.TheVariants.{Begin, Drop}
-use Rattle.pk_parse.specs.declared.literal.Literal.TheVariants as literals
+use Rattle.pk_syntax.specs.declared.statement.Statement.TheVariants.{Begin, Drop}
+use Rattle.pk_syntax.specs.declared.literal.Literal.TheVariants as literals
 use Rattle.pk_parse.specs.declared.table_part.TablePart.{TablePart}
 use Rattle.pk_parse.specs.declared.table_part.TablePart.TheVariants.{Column, Key}
 use Rattle.pk_parse.specs.declared.table_part.Mark.TheVariants.{Unique}

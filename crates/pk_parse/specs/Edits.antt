@@ -1,10 +1,10 @@
 use Rattle.std.specs.Prelude.{List, codes, ℕ, Option, Some, None}
 use Rattle.pk_lex.specs.declared.token.Token.{Token}
 use Rattle.pk_lex.specs.declared.token.Symbol.TheVariants.{LeftParen, Equal}
-use Rattle.pk_parse.specs.declared.statement.Statement.{Statement}
-use Rattle.pk_parse.specs.declared.statement.Statement.TheVariants as statements
-use Rattle.pk_parse.specs.declared.edit.SetPart.{SetPart}
-use Rattle.pk_parse.specs.declared.literal.Literal.{Literal}
+use Rattle.pk_syntax.specs.declared.statement.Statement.{Statement}
+use Rattle.pk_syntax.specs.declared.statement.Statement.TheVariants as statements
+use Rattle.pk_syntax.specs.declared.edit.SetPart.{SetPart}
+use Rattle.pk_syntax.specs.declared.literal.Literal.{Literal}
 use Rattle.pk_parse.specs.Tokens.{Found, ◌>>=◌, behind_or, after_word, after_symbol, name_at}
 use Rattle.pk_parse.specs.Literals.{literal_at}
 use Rattle.pk_parse.specs.Lists.{list_at, parens_at}

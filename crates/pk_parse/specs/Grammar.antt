@@ -3,16 +3,16 @@ use Rattle.pk_values.specs.declared.key.Sort.TheVariants.{Certain, Possible}
 use Rattle.pk_lex.specs.declared.token.Token.{Token}
 use Rattle.pk_lex.specs.declared.token.Token.TheVariants.{Word, Number, Symbol as Sign}
 use Rattle.pk_lex.specs.declared.token.Symbol.TheVariants.{LeftParen, RightParen, Comma, Star, Equal}
-use Rattle.pk_parse.specs.declared.statement.Statement.{Statement}
-use Rattle.pk_parse.specs.declared.statement.Statement.TheVariants.{Create, Drop, Insert, Update, Delete, Select, Begin, Commit, Rollback, Session, Show, Implies, Cover, Examples, Discover, Checkpoint}
-use Rattle.pk_parse.specs.declared.declaration.TableDecl.{TableDecl}
-use Rattle.pk_parse.specs.declared.declaration.KeyText.{KeyText}
-use Rattle.pk_parse.specs.declared.condition.Test.{Test}
-use Rattle.pk_parse.specs.declared.edit.SetPart.{SetPart}
-use Rattle.pk_parse.specs.declared.query.What.{What}
-use Rattle.pk_parse.specs.declared.query.What.TheVariants.{All, Columns, Count}
-use Rattle.pk_parse.specs.declared.query.OrderPart.{OrderPart}
-use Rattle.pk_parse.specs.declared.literal.Literal.{Literal}
+use Rattle.pk_syntax.specs.declared.statement.Statement.{Statement}
+use Rattle.pk_syntax.specs.declared.statement.Statement.TheVariants.{Create, Drop, Insert, Update, Delete, Select, Begin, Commit, Rollback, Session, Show, Implies, Cover, Examples, Discover, Checkpoint}
+use Rattle.pk_syntax.specs.declared.declaration.TableDecl.{TableDecl}
+use Rattle.pk_syntax.specs.declared.declaration.KeyText.{KeyText}
+use Rattle.pk_syntax.specs.declared.condition.Test.{Test}
+use Rattle.pk_syntax.specs.declared.edit.SetPart.{SetPart}
+use Rattle.pk_syntax.specs.declared.query.What.{What}
+use Rattle.pk_syntax.specs.declared.query.What.TheVariants.{All, Columns, Count}
+use Rattle.pk_syntax.specs.declared.query.OrderPart.{OrderPart}
+use Rattle.pk_syntax.specs.declared.literal.Literal.{Literal}
 use Rattle.pk_parse.specs.declared.table_part.TablePart.{TablePart}
 use Rattle.pk_parse.specs.declared.table_part.TablePart.TheVariants.{Column, Key}
 use Rattle.pk_parse.specs.declared.table_part.ColumnForm.{ColumnForm}

@@ -1,4 +1,3 @@
-pub mod Words
 pub mod Tokens
 pub mod Literals
 pub mod Lists
@@ -9,15 +8,10 @@ pub mod Where
 pub mod Edits
 pub mod Queries
 pub mod Create
-pub mod PrimaryNames
 pub mod Statements
 pub mod Grammar
 pub mod Reading
 pub mod Parsed
-pub mod Given
 pub mod Edges
-pub mod Declarations
-pub mod Printing
 pub mod PrintLaw
-pub mod DeclarationEdges
 pub mod ConditionEdges

@@ -2,9 +2,9 @@ use Rattle.std.specs.Prelude.{◌≡◌, ℕ, false, List, [], ◌∷◌, codes}
 use Rattle.pk_lex.specs.declared.token.Token.{Token}
 use Rattle.pk_lex.specs.declared.token.Token.TheVariants.{Word, Number, Text, Symbol as Sign}
 use Rattle.pk_lex.specs.declared.token.Symbol.TheVariants.{Minus}
-use Rattle.pk_parse.specs.declared.literal.Literal.{Literal}
-use Rattle.pk_parse.specs.declared.literal.Literal.TheVariants as literals
-use Rattle.pk_parse.specs.Words.{is_reserved}
+use Rattle.pk_syntax.specs.declared.literal.Literal.{Literal}
+use Rattle.pk_syntax.specs.declared.literal.Literal.TheVariants as literals
+use Rattle.pk_syntax.specs.Words.{is_reserved}
 use Rattle.pk_parse.specs.Literals.{number_of, plain_number, negative_number}
 
 -- the word isn't reserved

@@ -1,11 +1,11 @@
 use Rattle.std.specs.Prelude.{Bool, true, false, List, [], codes, Some}
 use Rattle.pk_lex.specs.declared.token.Token.{Token}
 use Rattle.pk_lex.specs.declared.token.Symbol.TheVariants.{LeftParen, RightParen, Star}
-use Rattle.pk_parse.specs.declared.statement.Statement.{Statement}
-use Rattle.pk_parse.specs.declared.statement.Statement.TheVariants as statements
-use Rattle.pk_parse.specs.declared.query.What.{What}
-use Rattle.pk_parse.specs.declared.query.What.TheVariants.{All, Columns, Count}
-use Rattle.pk_parse.specs.declared.query.OrderPart.{OrderPart}
+use Rattle.pk_syntax.specs.declared.statement.Statement.{Statement}
+use Rattle.pk_syntax.specs.declared.statement.Statement.TheVariants as statements
+use Rattle.pk_syntax.specs.declared.query.What.{What}
+use Rattle.pk_syntax.specs.declared.query.What.TheVariants.{All, Columns, Count}
+use Rattle.pk_syntax.specs.declared.query.OrderPart.{OrderPart}
 use Rattle.pk_parse.specs.Tokens.{Found, ◌>>=◌, behind_or, after_word, after_symbol, name_at}
 use Rattle.pk_parse.specs.Lists.{list_at}
 use Rattle.pk_parse.specs.Where.{where_at}

@@ -4,7 +4,7 @@ use Rattle.pk_lex.specs.declared.token.Token.{Token}
 use Rattle.pk_lex.specs.declared.token.Token.TheVariants.{Word, Number, Symbol as Sign}
 use Rattle.pk_lex.specs.declared.token.Symbol.{Symbol}
 use Rattle.pk_lex.specs.Symbols.{spelling}
-use Rattle.pk_parse.specs.Words.{is_reserved}
+use Rattle.pk_syntax.specs.Words.{is_reserved}
 
 -- what stands at the front of the tokens, and the tokens behind it
 abbrev pub Found : Type 0 → Type 0

@@ -1,7 +1,7 @@
 use Rattle.std.specs.Prelude.{List, [], ◌∷◌, codes, Option, Some, None}
 use Rattle.pk_lex.specs.declared.token.Token.{Token}
 use Rattle.pk_lex.specs.declared.token.Token.TheVariants.{Word}
-use Rattle.pk_parse.specs.declared.condition.Test.{Test}
+use Rattle.pk_syntax.specs.declared.condition.Test.{Test}
 use Rattle.pk_parse.specs.Tokens.{Found, ◌>>=◌, behind_or, after_word}
 use Rattle.pk_parse.specs.Conditions.{condition_at}
 use Rattle.pk_parse.specs.ConditionGrammar.{IsCondition}

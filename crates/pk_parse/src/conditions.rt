@@ -5,12 +5,11 @@ ghost use Rattle.pk_parse.specs.Conditions.{op_of, op_at, operand_at, column_ope
 ghost use Rattle.pk_parse.specs.ConditionEdges.{ConditionsAtTheirEdges};
 ghost use Rattle.pk_parse.specs.ConditionGrammar.{ReadsConditions};
 
-use crate::condition::{Op, Operand, Test};
 use crate::lists::Part;
-use crate::literal::Literal;
 use crate::miss::{Miss, Parsed};
 use crate::tokens::{after_symbol, after_word, expect_symbol, expect_word, name_of};
 use pk_lex::{Symbol, Token};
+use pk_syntax::{Literal, Op, Operand, Test};
 use pk_values::{Items, Name};
 use sqlite_items::Boxed;
 use std::alloc::Global;

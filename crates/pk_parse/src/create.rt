@@ -3,15 +3,14 @@ ghost use Rattle.pk_parse.specs.Reading.{Finds, FindsIf};
 ghost use Rattle.pk_parse.specs.Create.{integer_form, text_form, length_within, varchar_at, form_at, mark_behind, mark_at, marks_at, column_behind, keyed_at, key_at, unique_at, primary_at, plain_key_at, key_part_at, part_key_at, part_at, create_at};
 ghost use Rattle.pk_parse.specs.Literals.{number_of};
 
-use crate::declaration::KeyText;
 use crate::declared::declared;
 use crate::lists::{Part, names_of, parens_of};
 use crate::literals::number_within;
 use crate::miss::{Miss, Parsed};
-use crate::statement::Statement;
 use crate::table_part::{ColumnForm, ColumnText, KeyPart, Mark, TablePart};
 use crate::tokens::{after_word, digits_of, expect_symbol, expect_word, name_of};
 use pk_lex::{Symbol, Token};
+use pk_syntax::{KeyText, Statement};
 use pk_values::{Items, Kind, Name, Sort};
 use std::alloc::Global;
 

@@ -2,12 +2,12 @@ ghost use Rattle.std.specs.Prelude.{◌≡◌, ◌||◌, ℕ, List, [], ◌∷�
 ghost use Rattle.std.specs.List.{filter_map, list_any};
 ghost use Rattle.std.specs.Str.{bytes_eq};
 ghost use Rattle.pk_parse.specs.Reading.{Reads};
-ghost use Rattle.pk_parse.specs.PrimaryNames.{has_name};
+ghost use Rattle.pk_values.specs.NameSets.{has_name};
 ghost use Rattle.pk_parse.specs.Create.{single_key, key_of_mark, keys_of_part, column_of_part, columns_of, keys_of, is_not_null, has_primary, is_primary, declared_column, declared_columns, declared_by, declared};
 
-use crate::declaration::{ColumnDecl, KeyText, TableDecl};
 use crate::miss::Miss;
 use crate::table_part::{ColumnText, KeyPart, Mark, TablePart};
+use pk_syntax::{ColumnDecl, KeyText, TableDecl};
 use pk_values::{Items, Memory, Name, Sort};
 use std::alloc::Global;
 use std::collections::BTreeSet;

@@ -1,14 +1,12 @@
 ghost use Rattle.pk_parse.specs.Reading.{Finds};
 ghost use Rattle.pk_parse.specs.Edits.{tuple_at, listed_at, list_or_none_at, set_at, insert_at, update_at, delete_at};
 
-use crate::edit::{Delete, Insert, SetPart, Update};
 use crate::lists::{Part, list_of, parens_of};
-use crate::literal::Literal;
 use crate::miss::Parsed;
-use crate::statement::Statement;
 use crate::tokens::{after_symbol, expect_symbol, expect_word, name_of};
 use crate::where_clause::where_of;
 use pk_lex::{Symbol, Token};
+use pk_syntax::{Delete, Insert, Literal, SetPart, Statement, Update};
 use pk_values::{Items, Name};
 use std::alloc::Global;
 

@@ -4,10 +4,10 @@ ghost use Rattle.pk_parse.specs.Literals.{number_of, number_within, plain_number
 ghost use Rattle.pk_lex.specs.declared.token.Token.TheVariants.{Text as TextToken};
 
 use crate::lists::Part;
-use crate::literal::Literal;
 use crate::miss::{Miss, Parsed};
 use crate::tokens::{digits_of, expect_symbol, expect_word};
 use pk_lex::{Symbol, Token};
+use pk_syntax::Literal;
 use pk_values::Bytes;
 use std::alloc::Global;
 

@@ -1,12 +1,12 @@
 ghost use Rattle.std.specs.Prelude.{IsTrue, IfOk};
 ghost use Rattle.pk_lex.specs.Tokens.{is_lexed};
-ghost use Rattle.pk_parse.specs.Given.{declares_plain, texts_are_utf8};
+ghost use Rattle.pk_syntax.specs.Given.{IsGiven};
 ghost use Rattle.pk_parse.specs.Parsed.{parsed, Parses};
 
 use crate::miss::Miss;
-use crate::statement::Statement;
 use crate::statements::read;
 use pk_lex::{Body, Piece};
+use pk_syntax::Statement;
 use std::alloc::Global;
 
 /// Why a piece gave no statement.
@@ -28,9 +28,8 @@ pub enum ParseErr {
 #[tactic(auto, unfolding(crate::specs::Parsed::parsed))]
 pub fn parse(alloc: Global, piece: &Piece) -> Result<Statement, ParseErr>
     ensures exact { Parses result (parsed piece.now) }
-    ensures plain { IfOk result (λ s. IsTrue (declares_plain s)) }
-    // In a piece of `lex` each text is UTF-8.
-    ensures texts { IsTrue (is_lexed piece.now) → IfOk result (λ s. IsTrue (texts_are_utf8 s)) }
+    // What `lex` gives is lexed.
+    ensures given { IsTrue (is_lexed piece.now) → IfOk result (λ s. IsGiven s) }
 {
     let line = piece.line;
     let tokens = match &piece.body {

@@ -4,11 +4,10 @@ ghost use Rattle.pk_parse.specs.Queries.{count_at, columns_at, what_at, directio
 
 use crate::lists::{Part, list_of};
 use crate::miss::Parsed;
-use crate::query::{OrderPart, Select, What};
-use crate::statement::Statement;
 use crate::tokens::{after_symbol, after_word, expect_symbol, expect_word, name_of};
 use crate::where_clause::where_of;
 use pk_lex::{Symbol, Token};
+use pk_syntax::{OrderPart, Select, Statement, What};
 use pk_values::{Items, Name};
 use std::alloc::Global;
 

@@ -8,9 +8,9 @@ use crate::edits::{delete_of, insert_of, update_of};
 use crate::lists::names_of;
 use crate::miss::{Miss, Parsed};
 use crate::queries::select_of;
-use crate::statement::Statement;
 use crate::tokens::{after_word, expect_word, name_of};
 use pk_lex::Token;
+use pk_syntax::Statement;
 use pk_values::{Items, Name};
 use std::alloc::Global;
 

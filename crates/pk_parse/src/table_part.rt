@@ -1,4 +1,4 @@
-use crate::declaration::KeyText;
+use pk_syntax::KeyText;
 use pk_values::{Items, Kind, Name};
 
 /// A part of a CREATE TABLE as it is written.

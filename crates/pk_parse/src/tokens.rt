@@ -3,8 +3,8 @@ ghost use Rattle.pk_parse.specs.Reading.{Finds, FindsBytes, Passes};
 ghost use Rattle.pk_parse.specs.Tokens.{after_word, after_symbol, name_at, digits_at};
 
 use crate::miss::{Miss, Parsed};
-use crate::words::is_reserved;
 use pk_lex::{Symbol, Token};
+use pk_syntax::is_reserved;
 use pk_values::Name;
 
 // The tokens behind this word, where they begin with it.

@@ -1,11 +1,11 @@
 ghost use Rattle.pk_parse.specs.Reading.{Finds};
 ghost use Rattle.pk_parse.specs.Where.{tested_at, where_at};
 
-use crate::condition::Test;
 use crate::conditions::condition_of;
 use crate::miss::Parsed;
 use crate::tokens::after_word;
 use pk_lex::Token;
+use pk_syntax::Test;
 use std::alloc::Global;
 
 // [ WHERE cond ]

@@ -1,5 +1,6 @@
 use pk_lex::{Piece, lex};
-use pk_parse::{Statement, TableDecl, parse, print_table};
+use pk_parse::parse;
+use pk_syntax::{Statement, TableDecl, print_table};
 use pk_values::Memory;
 use std::alloc::Global;
 use std::test::Fail;

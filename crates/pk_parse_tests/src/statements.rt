@@ -1,6 +1,7 @@
 use crate::telling::{is_none, replaced, told};
 use pk_lex::{Body, Piece, Token, lex};
-use pk_parse::{ParseErr, Statement, is_reserved};
+use pk_parse::ParseErr;
+use pk_syntax::{Statement, is_reserved};
 use pk_values::Memory;
 use std::alloc::Global;
 use std::test::Fail;

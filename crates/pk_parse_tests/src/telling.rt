@@ -1,7 +1,8 @@
 use pk_lex::{Piece, lex};
-use pk_parse::{
-    ColumnDecl, Delete, Insert, KeyText, Literal, Op, Operand, OrderPart, ParseErr, Select,
-    SetPart, Statement, TableDecl, Test, Update, What, parse,
+use pk_parse::{ParseErr, parse};
+use pk_syntax::{
+    ColumnDecl, Delete, Insert, KeyText, Literal, Op, Operand, OrderPart, Select, SetPart,
+    Statement, TableDecl, Test, Update, What,
 };
 use pk_values::{Items, Kind, Memory, Name, Sort};
 use std::alloc::Global;

@@ -8,9 +8,9 @@ use Rattle.pk_values.specs.declared.kind.Kind.TheVariants as kinds
 use Rattle.pk_values.specs.declared.value.Value.{Value}
 use Rattle.pk_values.specs.declared.value.Value.TheVariants.{Null}
 use Rattle.pk_values.specs.ColumnSet.{has_column, columns, is_subset}
-use Rattle.pk_values.specs.Values.{is_null, fits_kind, fits_kinds, value_at, same_value}
-use Rattle.pk_parse.specs.Declarations.{is_certain}
-use Rattle.pk_similar.specs.Filling.{kind_at, blank}
+use Rattle.pk_values.specs.Values.{is_null, fits_kind, fits_kinds, value_at, same_value, blank}
+use Rattle.pk_syntax.specs.Declarations.{is_certain}
+use Rattle.pk_similar.specs.Filling.{kind_at}
 use Rattle.pk_similar.specs.Similarity.{weak_entries, strong_entries, weak, strong}
 use Rattle.pk_rule.specs.Plain.{Plain}
 use Rattle.pk_rule.specs.Tables.{is_known_on}

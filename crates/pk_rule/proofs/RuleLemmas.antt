@@ -12,12 +12,12 @@ use Rattle.pk_values.specs.declared.kind.Kind.{Kind}
 use Rattle.pk_values.specs.declared.value.Value.{Value}
 use Rattle.pk_values.specs.ColumnSet.{columns, is_subset}
 use Rattle.pk_values.specs.Values.{fits_kinds}
-use Rattle.pk_parse.specs.Declarations.{is_certain}
+use Rattle.pk_syntax.specs.Declarations.{is_certain}
 use Rattle.pk_similar.specs.Laws.{all_fit}
 use Rattle.pk_similar.specs.Similarity.{are_below, weak, strong}
 use Rattle.pk_similar.proofs.TableLemmas.{table_weight, kept_apart, kept_apart_completes, no_strong_agree, apart_no_strong, no_weak_agree, certain_no_weak}
 use Rattle.pk_rule.specs.Plain.{Plain, IsPlain}
-use Rattle.pk_rule.specs.Tables.{HoldsAs, KeyHolds, KeysHold, TableOf, Implied, all_known}
+use Rattle.pk_rule.specs.Tables.{HoldsAs, KeyHolds, AllHold, TableOf, Implied, all_known}
 use Rattle.pk_rule.specs.Rule.{alone_implies, is_implied}
 use Rattle.pk_rule.specs.TwoRows.{low_row, high_row}
 use Rattle.pk_rule.specs.Laws.{with_key}
@@ -39,7 +39,7 @@ alone_holds s d k rows plain inside fit known implies holds =
 
 some_holds :
     (s : Plain) (k : KeyDecl) (rows : List (List Value)) (keys : List KeyDecl) → IsPlain s → k.columns < 2 ^ length s.kinds → all_fit s.kinds rows ≡ true → all_known s.known rows ≡ true
-    → list_any (λ d. alone_implies s.known d k) keys ≡ true → KeysHold s.kinds rows keys → KeyHolds s.kinds rows k
+    → list_any (λ d. alone_implies s.known d k) keys ≡ true → AllHold s.kinds rows keys → KeyHolds s.kinds rows k
 some_holds s k rows [] plain inside fit known some hold = cc
 some_holds s k rows (d ∷ ds) plain inside fit known some hold =
     elim (cases_Bool (alone_implies s.known d k)) [
@@ -111,7 +111,7 @@ rows_related s d k inside = by_sort d.sort
 -- every key that doesn't imply it holds in the table of its two rows
 keys_hold :
     (s : Plain) (k : KeyDecl) (keys : List KeyDecl) → All (Inside (length s.kinds)) keys → list_any (λ d. alone_implies s.known d k) keys ≡ false
-    → KeysHold s.kinds (low_row s k ∷ high_row s k ∷ []) keys
+    → AllHold s.kinds (low_row s k ∷ high_row s k ∷ []) keys
 keys_hold s k [] inside none = All-nil (KeyHolds s.kinds (low_row s k ∷ high_row s k ∷ []))
 keys_hold s k (d ∷ ds) inside none =
     let parts = or_parts (alone_implies s.known d k) (list_any (λ e. alone_implies s.known e k) ds) none in
@@ -167,7 +167,7 @@ one_named_back s d k alone = rw alone refl
 
 -- ---- one key among those that hold
 
-pub one_holds : (kinds : List Kind) (rows : List (List Value)) (keys : List KeyDecl) (i : ℕ) (k : KeyDecl) → KeysHold kinds rows keys
+pub one_holds : (kinds : List Kind) (rows : List (List Value)) (keys : List KeyDecl) (i : ℕ) (k : KeyDecl) → AllHold kinds rows keys
     → slice_get keys i ≡ Some k → KeyHolds kinds rows k
 one_holds kinds rows keys i k hold is =
     subst (KeyHolds kinds rows) (get_or_from_slice_get keys i k k is) (hold i k (slice_get_within keys i k is))

@@ -5,7 +5,7 @@ use Rattle.std.proofs.lemmas.Bool.{eqb-true, eq-eqb}
 use Rattle.std.proofs.lemmas.List.{length-map}
 use Rattle.std.specs.Str.{bytes_eq}
 use Rattle.pk_values.specs.declared.key.KeyDecl.{KeyDecl}
-use Rattle.pk_parse.specs.declared.declaration.ColumnDecl.{ColumnDecl}
+use Rattle.pk_syntax.specs.declared.declaration.ColumnDecl.{ColumnDecl}
 use Rattle.pk_schema.specs.Shapes.{Shape, IsShape, kinds_of, not_null_of, name_at}
 use Rattle.pk_schema.proofs.NamedLemmas.{places_told}
 use Rattle.pk_schema.proofs.SetLemmas.{set_small}

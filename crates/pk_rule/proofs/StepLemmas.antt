@@ -9,7 +9,7 @@ use Rattle.pk_values.specs.declared.value.Value.{Value}
 use Rattle.pk_values.specs.declared.value.Value.TheVariants.{Null, Integer, Text}
 use Rattle.pk_values.specs.ColumnSet.{IsColumnSet, columns, is_subset}
 use Rattle.pk_values.specs.Values.{is_null, value_at}
-use Rattle.pk_parse.specs.Declarations.{is_certain}
+use Rattle.pk_syntax.specs.Declarations.{is_certain}
 use Rattle.pk_similar.specs.Completions.{AgreeOn, AgreesWithNone, NoneAgree, Certain, Possible}
 use Rattle.pk_similar.specs.Laws.{all_fit}
 use Rattle.pk_similar.specs.Similarity.{is_among, weak_entries, strong_entries, weak, strong, no_pair}

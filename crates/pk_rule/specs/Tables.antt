@@ -22,8 +22,8 @@ abbrev pub KeyHolds : List Kind → List (List Value) → KeyDecl → Type 0
 KeyHolds kinds rows k = HoldsAs k.sort kinds rows (columns k.columns)
 
 -- every one of the keys holds in the table
-abbrev pub KeysHold : List Kind → List (List Value) → List KeyDecl → Type 0
-KeysHold kinds rows keys = All (KeyHolds kinds rows) keys
+abbrev pub AllHold : List Kind → List (List Value) → List KeyDecl → Type 0
+AllHold kinds rows keys = All (KeyHolds kinds rows) keys
 
 -- the row is null in none of the columns
 abbrev pub is_known_on : List ℕ → List Value → Bool
@@ -35,7 +35,7 @@ all_known set rows = list_all (is_known_on (columns set)) rows
 
 -- the rows are a table of the schema: each fits the kinds, none is null in a NOT NULL column, and every key holds
 abbrev pub TableOf : Plain → List (List Value) → Type 0
-TableOf s rows = IsTrue (all_fit s.kinds rows) × IsTrue (all_known s.known rows) × KeysHold s.kinds rows s.keys
+TableOf s rows = IsTrue (all_fit s.kinds rows) × IsTrue (all_known s.known rows) × AllHold s.kinds rows s.keys
 
 -- the key holds in every table of the schema
 abbrev pub Implied : Plain → KeyDecl → Type 0

@@ -7,8 +7,8 @@ use Rattle.pk_values.specs.declared.kind.Kind.TheVariants as kinds
 use Rattle.pk_values.specs.declared.value.Value.{Value}
 use Rattle.pk_values.specs.declared.value.Value.TheVariants.{Null, Integer, Text}
 use Rattle.pk_values.specs.ColumnSet.{has_column}
-use Rattle.pk_parse.specs.Declarations.{is_certain}
-use Rattle.pk_similar.specs.Filling.{blank}
+use Rattle.pk_syntax.specs.Declarations.{is_certain}
+use Rattle.pk_values.specs.Values.{blank}
 use Rattle.pk_rule.specs.Plain.{Plain}
 
 -- a known value that isn't the blank: 1, or the text 'a'

@@ -3,7 +3,7 @@ use Rattle.std.proofs.lemmas.List.{take-append-drop, append-nil, drop_more}
 use Rattle.pk_lex.specs.declared.piece.Piece.{Piece}
 use Rattle.pk_report.specs.Text.{text}
 use Rattle.pk_engine.specs.State.{State}
-use Rattle.pk_run.specs.Told.{step, run, told_by, is_refusal, has_refusal, TellsFront}
+use Rattle.pk_run.specs.Told.{step, run, state_after, told_by, is_refusal, has_refusal, TellsFront}
 
 -- behind the old bytes the new ones have a front of the whole, and this is what is still to be told of it
 pub record GoesOn (old new whole rest : List ℕ) : Type 0 where
@@ -61,6 +61,11 @@ told_from now pieces i piece within is = ap (λ (ps : List Piece). told_by (run 
 pub refused_from : (now : State) (pieces : List Piece) (i : ℕ) (piece : Piece) → i < length pieces → piece ≡ get_or pieces i piece
     → has_refusal (run now (drop i pieces)) ≡ (is_refusal (step now piece).reply || has_refusal (run (step now piece).next (drop (i + 1) pieces)))
 refused_from now pieces i piece within is = ap (λ (ps : List Piece). has_refusal (run now ps)) (from_place pieces i piece within is)
+
+-- the state after them is that after those behind the first, from the state that the first leaves
+pub after_from : (now : State) (pieces : List Piece) (i : ℕ) (piece : Piece) → i < length pieces → piece ≡ get_or pieces i piece
+    → state_after now (drop i pieces) ≡ state_after (step now piece).next (drop (i + 1) pieces)
+after_from now pieces i piece within is = ap (state_after now) (from_place pieces i piece within is)
 
 -- a run that goes on hasn't failed
 pub ok_is_no_fault : {T E : Type 0} (r : Result T E) (x : T) (e : E) → r ≡ Ok x → r ≡ Err e → ⊥

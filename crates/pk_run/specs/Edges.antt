@@ -8,9 +8,9 @@ use Rattle.pk_lex.specs.declared.token.Symbol.TheVariants.{AtMost, UnequalAngle}
 use Rattle.pk_lex.specs.declared.piece.Body.TheVariants.{Tokens, BadCharacter}
 use Rattle.pk_lex.specs.Symbols.{symbol_at}
 use Rattle.pk_lex.specs.Pieces.{pieces}
-use Rattle.pk_parse.specs.Words.{reserved}
-use Rattle.pk_parse.specs.declared.declaration.TableDecl.{TableDecl}
-use Rattle.pk_parse.specs.Declarations.{names_are_short}
+use Rattle.pk_syntax.specs.Words.{reserved}
+use Rattle.pk_syntax.specs.declared.declaration.TableDecl.{TableDecl}
+use Rattle.pk_syntax.specs.Declarations.{names_are_short}
 use Rattle.pk_parse.specs.Literals.{number_of}
 use Rattle.pk_report.specs.declared.reply.Reply.TheVariants.{Inserted, Selected, Refused}
 use Rattle.pk_report.specs.Text.{text}

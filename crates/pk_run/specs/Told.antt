@@ -4,7 +4,7 @@ use Rattle.pk_values.specs.declared.refusal.Refusal.{Refusal}
 use Rattle.pk_values.specs.declared.refusal.Refusal.TheVariants.{BadCharacter, UnclosedText, NotStatement}
 use Rattle.pk_lex.specs.declared.piece.Piece.{Piece}
 use Rattle.pk_lex.specs.Pieces.{pieces}
-use Rattle.pk_parse.specs.declared.statement.Statement.{Statement}
+use Rattle.pk_syntax.specs.declared.statement.Statement.{Statement}
 use Rattle.pk_parse.specs.declared.parsing.ParseErr.{ParseErr}
 use Rattle.pk_parse.specs.declared.parsing.ParseErr.TheVariants as faults
 use Rattle.pk_parse.specs.Parsed.{parsed}
@@ -13,12 +13,8 @@ use Rattle.pk_report.specs.declared.reply.Reply.TheVariants.{Refused}
 use Rattle.pk_report.specs.Text.{text}
 use Rattle.pk_engine.specs.Base.{Base}
 use Rattle.pk_engine.specs.State.{State, started}
-use Rattle.pk_engine.specs.Refusing.{Step}
+use Rattle.pk_engine.specs.Refusing.{Step, refused}
 use Rattle.pk_engine.specs.Answer.{answer, is_answered}
-
--- a refusal, and the state as it was
-abbrev pub refused : State → Refusal → Step
-refused st r = record { reply = Refused r; next = st }
 
 -- why a piece on this line is no statement; what is read never wants for memory
 abbrev pub refusal_of : ℕ → ParseErr → Refusal
@@ -40,6 +36,11 @@ step st piece = answer_to st piece.line (parsed piece)
 abbrev pub run : State → List Piece → List Step
 run st [] = []
 run st (piece ∷ pieces) = step st piece ∷ run (step st piece).next pieces
+
+-- the state after pieces
+abbrev pub state_after : State → List Piece → State
+state_after st [] = st
+state_after st (piece ∷ pieces) = state_after (step st piece).next pieces
 
 -- the bytes that tell the replies
 abbrev pub told_by : List Step → List ℕ

@@ -14,7 +14,8 @@ mod status;
 mod top;
 
 pub use laws::{
-    edges_are_told, example_is_told, fronts_are_fronts, refusals_change_nothing, runs_in_halves,
+    edges_are_told, example_is_told, fronts_are_fronts, printed_schemas_read_back,
+    refusals_change_nothing, runs_in_halves, runs_pass_valid_states,
 };
 pub use status::Status;
 pub use top::run_keytab;

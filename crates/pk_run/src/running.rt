@@ -4,7 +4,7 @@ ghost use Rattle.pk_lex.specs.Tokens.{is_lexed};
 ghost use Rattle.pk_engine.specs.State.{State};
 ghost use Rattle.pk_engine.specs.Stands.{StandsFor};
 ghost use Rattle.pk_report.specs.Text.{text};
-ghost use Rattle.pk_run.specs.Told.{step, run, told_by, is_refusal, has_refusal};
+ghost use Rattle.pk_run.specs.Told.{step, run, state_after, told_by, is_refusal, has_refusal};
 ghost use Rattle.pk_run.specs.Run.{Takes, TakesFront};
 
 use pk_engine::{Engine, is_answered};
@@ -45,7 +45,7 @@ impl From<Failed> for RunErr {
 }
 
 /// Answers the pieces one by one, and tells each reply before the next piece is answered. At `Ok` it
-/// says whether some reply is a refusal.
+/// says whether some reply is a refusal, and the engine stands for the state after all pieces.
 pub fn run_pieces<W: Station>(
     alloc: Global,
     engine: &mut Engine,
@@ -56,6 +56,7 @@ pub fn run_pieces<W: Station>(
     requires lexed { All (λ piece. IsTrue (is_lexed piece)) pieces.now }
     ensures whole { IfOk result (λ _. (st : State) → StandsFor engine.old st → Takes W.Station station.old station.new (told_by (run st pieces.now))) }
     ensures refused { IfOk result (λ refused. (st : State) → StandsFor engine.old st → refused ≡ has_refusal (run st pieces.now)) }
+    ensures after { IfOk result (λ _. (st : State) → StandsFor engine.old st → StandsFor engine.new (state_after st pieces.now)) }
     ensures front { (st : State) → StandsFor engine.old st → TakesFront W.Station station.old station.new (told_by (run st pieces.now)) }
     ensures cause { IsErrOf result RunErr.Fault → Rose (W.sink_faults station.old) (W.sink_faults station.new) }
     ensures unfailed { ¬ IsErrOf result RunErr.Fault → W.sink_faults station.new ≡ W.sink_faults station.old }

@@ -6,14 +6,18 @@ ghost use Rattle.pk_engine.specs.KeyLaws.{KeysAreJudgedByCompletions};
 ghost use Rattle.pk_engine.specs.ReasonLaws.{ImpliesTellsTheTruth, CoverIsTold};
 ghost use Rattle.pk_run.specs.Status.{IsUnrun};
 ghost use Rattle.pk_run.specs.Words.{is_plain_form};
+ghost use Rattle.pk_run.specs.Laws.{RunsPassValidStates};
 ghost use Rattle.pk_run.specs.Told.{told, is_refused};
 ghost use Rattle.pk_run.specs.Run.{WhereTells, Takes, TakesFront, OnWholeRun, IsReadAs, IsLeftBy, AreCountedBy, IsUnstopped};
 ghost use Rattle.pk_run.specs.declared.scripts.TheConstants.{MOST_SCRIPT};
 
+use crate::laws::runs_pass_valid_states;
 use crate::running::{RunErr, run_pieces};
 use crate::scripts::{ReadErr, script_of};
 use crate::status::Status;
-use pk_engine::Engine;
+use pk_engine::{
+    Engine, implies_tells_the_truth, keys_are_judged_by_completions, the_cover_is_told,
+};
 use pk_lex::lex;
 use pk_world::{Source, Station};
 use std::alloc::Global;
@@ -21,7 +25,6 @@ use std::alloc::Global;
 /// Does what the words after the program's name ask for. `memory` reads the whole script of the source,
 /// answers its pieces one by one from the empty base, and tells each reply to the station before the
 /// next piece is answered. No other words ask for anything.
-#[tactic(auto, using(crate::proofs::EngineLaws::keys_judged, crate::proofs::EngineLaws::implied_truly, crate::proofs::EngineLaws::cover_told))]
 pub fn run_keytab<S: Source, W: Station>(
     alloc: Global,
     words: &[String],
@@ -31,6 +34,9 @@ pub fn run_keytab<S: Source, W: Station>(
     // What is told is a front of the machine's replies, and all of them where the script was run to its end.
     ensures front { WhereTells S.Source script.old (λ bytes. TakesFront W.Station station.old station.new (told empty_base bytes)) }
     ensures whole { OnWholeRun result (WhereTells S.Source script.old (λ bytes. Takes W.Station station.old station.new (told empty_base bytes))) }
+
+    // Each state that the run of a script passes through is a valid one, so that the next three speak of it.
+    ensures passed { RunsPassValidStates }
 
     // Where nothing else refuses a statement that changes rows, it is refused for a key exactly where some key of its
     // table, as that would be, fails over all completions, with two rows shown; else it is done.
@@ -62,6 +68,7 @@ pub fn run_keytab<S: Source, W: Station>(
     ensures script_tells { IsTrue (S.tells script.old) → IsTrue (S.tells script.new) }
     ensures station_tells { IsTrue (W.tells station.old) → IsTrue (W.tells station.new) }
 {
+    machine_laws();
     if !is_memory(words) {
         return Status::Usage;
     }
@@ -76,6 +83,19 @@ pub fn run_keytab<S: Source, W: Station>(
         Err(ReadErr::Long) => Status::LongScript,
         Err(ReadErr::OutOfMemory) => Status::OutOfMemory,
     }
+}
+
+// What holds of the machine whatever statements come.
+fn machine_laws()
+    ensures passed { RunsPassValidStates }
+    ensures keys { KeysAreJudgedByCompletions }
+    ensures implied { ImpliesTellsTheTruth }
+    ensures cover { CoverIsTold }
+{
+    runs_pass_valid_states();
+    keys_are_judged_by_completions();
+    implies_tells_the_truth();
+    the_cover_is_told();
 }
 
 // Runs a whole script from the empty base. At `Ok` it says whether some reply is a refusal.

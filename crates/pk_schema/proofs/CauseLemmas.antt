@@ -1,6 +1,6 @@
 -- Which refusal of a declaration is told.
 use Rattle.std.proofs.Common.{refl}
-use Rattle.pk_parse.specs.declared.declaration.TableDecl.{TableDecl}
+use Rattle.pk_syntax.specs.declared.declaration.TableDecl.{TableDecl}
 use Rattle.pk_schema.specs.Making.{no_column, declared_twice}
 use Rattle.pk_schema.specs.Laws.{FirstCause}
 

@@ -5,7 +5,7 @@ use Rattle.std.specs.List.{filter, range_with_len}
 use Rattle.std.proofs.lemmas.Bool.{cases_Bool}
 use Rattle.pk_values.specs.ColumnSet.{has_column, columns}
 use Rattle.pk_values.proofs.RangeLemmas.{filter_twice}
-use Rattle.pk_parse.specs.declared.declaration.ColumnDecl.{ColumnDecl}
+use Rattle.pk_syntax.specs.declared.declaration.ColumnDecl.{ColumnDecl}
 use Rattle.pk_schema.specs.Shapes.{set_where}
 use Rattle.pk_schema.proofs.SetLemmas.{has_first, has_next, has_none}
 use Rattle.std.proofs.Math.Bool.{and_comm}

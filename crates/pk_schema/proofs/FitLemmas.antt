@@ -5,8 +5,8 @@ use Rattle.std.proofs.lemmas.Bool.{leb-true, le-leb, eqb-true, eq-eqb}
 use Rattle.pk_values.specs.declared.value.Value.{Value}
 use Rattle.pk_values.specs.Values.{fits_kind, fits_kinds}
 use Rattle.pk_values.specs.Records.{row_record}
-use Rattle.pk_parse.specs.declared.declaration.ColumnDecl.{ColumnDecl}
-use Rattle.pk_parse.specs.Declarations.{first_of}
+use Rattle.pk_syntax.specs.declared.declaration.ColumnDecl.{ColumnDecl}
+use Rattle.pk_syntax.specs.Declarations.{first_of}
 use Rattle.pk_schema.specs.declared.admitting.RowFault.{RowFault}
 use Rattle.pk_schema.specs.Shapes.{Shape, kinds_of}
 use Rattle.pk_schema.specs.Admits.{Admits, has_other_kind, is_long, is_missing, first_wrong, width_fault, kind_fault, long_fault, null_fault, size_fault, row_fault}

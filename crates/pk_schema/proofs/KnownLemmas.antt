@@ -8,9 +8,9 @@ use Rattle.std.specs.Str.{bytes_eq}
 use Rattle.std.proofs.Math.Seq.{drop-cons}
 use Rattle.std.proofs.lemmas.List.{take_more, map-append}
 use Rattle.std.proofs.lemmas.List.Folds.{list_any-append}
-use Rattle.pk_parse.specs.PrimaryNames.{has_name as knows}
-use Rattle.pk_parse.specs.Declarations.{has_name, twice, twice_behind}
-use Rattle.pk_parse.proofs.PrimarySets.{set_gains}
+use Rattle.pk_values.specs.NameSets.{has_name as knows}
+use Rattle.pk_syntax.specs.Declarations.{has_name, twice, twice_behind}
+use Rattle.pk_values.proofs.NameSetLemmas.{set_gains}
 
 at_the_end : (a b : Bool) → (a || b) ≡ (b || (a || false))
 at_the_end true true = refl

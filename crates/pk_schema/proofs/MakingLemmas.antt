@@ -4,7 +4,7 @@ use Rattle.std.specs.List.{find, flat_map}
 use Rattle.std.specs.Option.{option_or}
 use Rattle.std.proofs.lemmas.List.Folds.{find-append}
 use Rattle.std.proofs.Math.Seq.{drop-cons}
-use Rattle.pk_parse.specs.declared.declaration.KeyText.{KeyText}
+use Rattle.pk_syntax.specs.declared.declaration.KeyText.{KeyText}
 
 -- the names in keys, from this key on
 names_from : (p : List ℕ → Bool) (keys : List KeyText) (i : ℕ) (key : KeyText) → i < length keys → key ≡ get_or keys i key

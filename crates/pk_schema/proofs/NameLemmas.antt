@@ -1,7 +1,7 @@
 -- The names of the columns of a set.
 use Rattle.std.proofs.Common.{◌≡◌, refl, sym, ◌∙◌, ap, ℕ, zero, suc, ◌<◌, List, [], ◌∷◌, ◌++◌, length, get_or, map, append_assoc, append-nil, arith}
 use Rattle.pk_values.specs.ColumnSet.{columns}
-use Rattle.pk_parse.specs.declared.declaration.ColumnDecl.{ColumnDecl}
+use Rattle.pk_syntax.specs.declared.declaration.ColumnDecl.{ColumnDecl}
 use Rattle.pk_schema.specs.Shapes.{name_at, names_at}
 
 -- ---- a walk over a set, with the names

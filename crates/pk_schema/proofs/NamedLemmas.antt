@@ -8,8 +8,8 @@ use Rattle.std.proofs.lemmas.Nat.Bits.{bit_at_above}
 use Rattle.std.proofs.lemmas.Slice.Eq.{bytes_eq-Decides}
 use Rattle.pk_values.specs.ColumnSet.{has_column, columns}
 use Rattle.pk_values.proofs.ColumnLemmas.{listed_columns, same_set, columns_below, set_bounded}
-use Rattle.pk_parse.specs.declared.declaration.ColumnDecl.{ColumnDecl}
-use Rattle.pk_parse.specs.Declarations.{has_name, names_of, twice, twice_behind, in_column_order}
+use Rattle.pk_syntax.specs.declared.declaration.ColumnDecl.{ColumnDecl}
+use Rattle.pk_syntax.specs.Declarations.{has_name, names_of, twice, twice_behind, in_column_order}
 use Rattle.pk_schema.specs.Shapes.{named_of, name_at, names_at}
 use Rattle.pk_schema.proofs.CountLemmas.{passes_at, has_where, none_kept}
 use Rattle.pk_schema.proofs.SetLemmas.{equal_next}

@@ -1,5 +1,5 @@
 -- What is declared for a schema makes the schema again.
-use Rattle.std.proofs.Common.{◌≡◌, refl, sym, ◌∙◌, ap, ℕ, ◌^◌, ◌<◌, ◌≤◌, Bool, true, not, ◌&&◌, ◌||◌, List, [], ◌∷◌, None, length, map, nat_le, IsTrue, Ok, arith}
+use Rattle.std.proofs.Common.{◌≡◌, refl, sym, ◌∙◌, ap, ℕ, ◌^◌, ◌<◌, ◌≤◌, Bool, true, not, ◌&&◌, ◌||◌, List, [], ◌∷◌, None, length, map, nat_le, IsTrue, arith}
 use Rattle.std.specs.List.{find, flat_map, list_all, All}
 use Rattle.std.proofs.lemmas.Bool.{and_parts, le-leb}
 use Rattle.std.proofs.lemmas.List.{length-map}
@@ -8,17 +8,13 @@ use Rattle.std.proofs.lemmas.List.Folds.{list_all-append}
 use Rattle.pk_values.specs.Name.{is_name}
 use Rattle.pk_values.specs.Refusals.{first_some}
 use Rattle.pk_values.specs.declared.key.KeyDecl.{KeyDecl}
-use Rattle.pk_lex.specs.Pieces.{pieces}
-use Rattle.pk_parse.specs.declared.declaration.ColumnDecl.{ColumnDecl}
-use Rattle.pk_parse.specs.declared.declaration.KeyText.{KeyText}
-use Rattle.pk_parse.specs.declared.statement.Statement.TheVariants.{Create}
-use Rattle.pk_parse.specs.Declarations.{has_column, has_name, names_of, names_in, is_plain, twice, first_of, is_certain, nullable_in, in_column_order}
-use Rattle.pk_parse.specs.Parsed.{parsed}
-use Rattle.pk_parse.specs.Printing.{table_text}
-use Rattle.pk_parse.specs.Words.{is_reserved}
-use Rattle.pk_parse.proofs.PrintReading.{printed_tables_read_back}
-use Rattle.pk_schema.specs.Shapes.{Shape, IsShape, is_plain_name, has_few_nullable, key_of, key_text_of, shape_of, decl_of, name_at, names_at}
+use Rattle.pk_syntax.specs.declared.declaration.ColumnDecl.{ColumnDecl}
+use Rattle.pk_syntax.specs.declared.declaration.KeyText.{KeyText}
+use Rattle.pk_syntax.specs.Declarations.{has_column, has_name, names_of, names_in, is_plain, twice, first_of, is_certain, nullable_in, in_column_order}
+use Rattle.pk_syntax.specs.Words.{is_reserved}
+use Rattle.pk_schema.specs.Shapes.{Shape, IsShape, is_plain_name, has_few_nullable, key_of, key_text_of, decl_of, name_at, names_at}
 use Rattle.pk_schema.specs.Making.{schema_refusals}
+use Rattle.pk_schema.specs.Laws.{MakesTheSame}
 use Rattle.pk_schema.proofs.CauseLemmas.{first_cause}
 use Rattle.pk_schema.proofs.NamedLemmas.{at_each, at_set, is_named, not_twice, ordered, set_again}
 use Rattle.pk_schema.proofs.ShapeLemmas.{few_nullable}
@@ -108,21 +104,13 @@ declared_unrefused table s named shape =
     (le-leb _ _ (rw (length-map s.keys (key_text_of s.columns)) shape.few_keys))
     (nullable_again s.columns s.keys shape.few_columns shape.distinct shape.keys_inside shape.few_nullable)
 
-pub declarations_make_the_same : (table : List ℕ) (s : Shape) → IsTrue (is_plain_name table) → IsShape s
-    → IsTrue (is_plain (decl_of table s)) × (first_some (schema_refusals (decl_of table s)) ≡ None) × (shape_of (decl_of table s) ≡ s)
-declarations_make_the_same table s named shape = (
-  declared_plain table s named shape,
-  declared_unrefused table s named shape,
-  ap (with_keys s) (keys_again s.columns s.keys shape.few_columns shape.distinct shape.keys_inside),
-)
-
--- ---- and reads back
-
-pub printed_schemas_read_back : (table : List ℕ) (s : Shape) → IsTrue (is_plain_name table) → IsShape s
-    → map parsed (pieces (table_text (decl_of table s))) ≡ Ok (Create (decl_of table s)) ∷ []
-printed_schemas_read_back table s named shape =
-    printed_tables_read_back (decl_of table s)
-    (all_names is_name table s (plain_is_name table named) (all_weaker is_plain_name _ plain_is_name (names_of s.columns) shape.names) shape.keys_inside)
-    (declared_plain table s named shape)
-    (All-map (λ (t : KeyText). in_column_order s.columns t.columns ≡ t.columns) (key_text_of s.columns) s.keys
-    (All-weaker (Inside s.columns) _ (λ k small. ordered s.columns k.columns shape.few_columns shape.distinct small) s.keys shape.keys_inside))
+pub declarations_make_the_same : (table : List ℕ) (s : Shape) → IsTrue (is_plain_name table) → IsShape s → MakesTheSame table s
+declarations_make_the_same table s named shape = record {
+  names = all_names is_name table s (plain_is_name table named) (all_weaker is_plain_name _ plain_is_name (names_of s.columns) shape.names) shape.keys_inside;
+  plain = declared_plain table s named shape;
+  ordered =
+      All-map (λ (t : KeyText). in_column_order s.columns t.columns ≡ t.columns) (key_text_of s.columns) s.keys
+      (All-weaker (Inside s.columns) _ (λ k small. ordered s.columns k.columns shape.few_columns shape.distinct small) s.keys shape.keys_inside);
+  unrefused = declared_unrefused table s named shape;
+  same = ap (with_keys s) (keys_again s.columns s.keys shape.few_columns shape.distinct shape.keys_inside);
+}

@@ -8,7 +8,7 @@ use Rattle.std.proofs.Math.Nat.{pow-suc}
 use Rattle.pk_values.specs.ColumnSet.{IsColumnSet, has_column, columns}
 use Rattle.pk_values.proofs.BitLemmas.{has_nothing}
 use Rattle.pk_values.proofs.ColumnLemmas.{same_set, set_from_columns, columns_nothing}
-use Rattle.pk_parse.specs.declared.declaration.ColumnDecl.{ColumnDecl}
+use Rattle.pk_syntax.specs.declared.declaration.ColumnDecl.{ColumnDecl}
 use Rattle.pk_schema.specs.Shapes.{set_where, all_of}
 use Rattle.std.proofs.Math.Bool.{or-false}
 

@@ -1,7 +1,7 @@
 -- What a declaration makes where nothing refuses it.
-use Rattle.std.proofs.Common.{◌≡◌, refl, sym, ◌∙◌, ap, ℕ, ◌^◌, ◌<◌, ◌≤◌, Bool, true, false, not, ◌&&◌, ◌||◌, List, [], ◌∷◌, Option, Some, None, length, map, nat_le, IsTrue, arith}
-use Rattle.std.specs.List.{list_all, All}
-use Rattle.std.proofs.lemmas.Bool.{and_parts, leb-true}
+use Rattle.std.proofs.Common.{◌≡◌, refl, sym, ◌∙◌, ap, ℕ, ◌^◌, ◌<◌, ◌≤◌, Bool, true, false, not, ◌&&◌, ◌||◌, List, [], ◌∷◌, ◌++◌, Option, Some, None, length, map, nat_le, IsTrue, arith}
+use Rattle.std.specs.List.{list_all, flat_map, All}
+use Rattle.std.proofs.lemmas.Bool.{and_parts, and_from, leb-true}
 use Rattle.std.proofs.lemmas.List.Elements.{All-nil, All-cons, All-map}
 use Rattle.std.proofs.lemmas.List.{length-map}
 use Rattle.std.proofs.lemmas.List.Folds.{list_all-map, list_all-append}
@@ -9,12 +9,13 @@ use Rattle.pk_values.specs.Name.{is_name}
 use Rattle.pk_values.specs.Refusals.{first_some}
 use Rattle.pk_values.specs.declared.key.KeyDecl.{KeyDecl}
 use Rattle.pk_values.specs.declared.refusal.LimitName.{LimitName}
-use Rattle.pk_parse.specs.declared.declaration.ColumnDecl.{ColumnDecl}
-use Rattle.pk_parse.specs.declared.declaration.KeyText.{KeyText}
-use Rattle.pk_parse.specs.declared.declaration.TableDecl.{TableDecl}
-use Rattle.pk_parse.specs.Declarations.{has_column, has_name, names_of, is_plain, twice, first_of, is_certain, nullable_in, names_are_short, columns_are_few, keys_are_few, nullable_are_few}
-use Rattle.pk_parse.specs.Words.{is_reserved}
+use Rattle.pk_syntax.specs.declared.declaration.ColumnDecl.{ColumnDecl}
+use Rattle.pk_syntax.specs.declared.declaration.KeyText.{KeyText}
+use Rattle.pk_syntax.specs.declared.declaration.TableDecl.{TableDecl}
+use Rattle.pk_syntax.specs.Declarations.{has_column, has_name, names_of, is_plain, twice, first_of, is_certain, nullable_in, names_are_short, columns_are_few, keys_are_few, nullable_are_few}
+use Rattle.pk_syntax.specs.Words.{is_reserved}
 use Rattle.pk_schema.specs.Shapes.{IsShape, shape_of, key_of, is_plain_name, has_few_nullable}
+use Rattle.pk_schema.specs.Laws.{DeclarationsMakeShapes}
 use Rattle.pk_schema.specs.Making.{schema_refusals, no_column, declared_twice, limit_unless}
 use Rattle.pk_schema.proofs.SetLemmas.{set_small}
 use Rattle.pk_schema.proofs.CountLemmas.{count_without}
@@ -101,6 +102,15 @@ made_shape decl plain free names =
     at_least_one : (cs : List ColumnDecl) → has_column cs ≡ true → 1 ≤ length cs
     at_least_one [] some = absurd (cc)
     at_least_one (c ∷ cs) some = omega arith
+
+-- and its table may have its name
+pub declarations_make_shapes : DeclarationsMakeShapes
+declarations_make_shapes decl plain names free =
+    let unreserved = and_parts _ _ (and_parts _ _ (and_parts _ _ plain).0).1 in
+    let named = and_parts (is_name decl.table) (list_all is_name (names_of decl.columns ++ flat_map (λ (k : KeyText). k.columns) decl.keys)) names in (
+      and_from _ _ (and_from _ _ named.0 unreserved.0) (and_parts _ _ (unrefused decl free).names).0,
+      made_shape decl plain free (and_parts _ _ (sym (list_all-append is_name (names_of decl.columns) (flat_map (λ (k : KeyText). k.columns) decl.keys)) ∙ named.1)).0,
+    )
 
 pub few_columns : (decl : TableDecl) (columns : List ColumnDecl) → first_some (schema_refusals decl) ≡ None → columns ≡ decl.columns → length columns ≤ 32
 few_columns decl columns free same = let few : length decl.columns ≤ 32 = leb-true _ _ (unrefused decl free).columns in rw same few

@@ -5,8 +5,8 @@ use Rattle.pk_values.specs.declared.value.Value.{Value}
 use Rattle.pk_values.specs.declared.value.Value.TheVariants as values
 use Rattle.pk_values.specs.Records.{row_record}
 use Rattle.pk_values.specs.Values.{fits_kind, is_null, value_at}
-use Rattle.pk_parse.specs.declared.declaration.ColumnDecl.{ColumnDecl}
-use Rattle.pk_parse.specs.Declarations.{first_of}
+use Rattle.pk_syntax.specs.declared.declaration.ColumnDecl.{ColumnDecl}
+use Rattle.pk_syntax.specs.Declarations.{first_of}
 use Rattle.pk_schema.specs.Shapes.{Shape}
 use Rattle.pk_schema.specs.declared.admitting.RowFault.{RowFault}
 use Rattle.pk_schema.specs.declared.admitting.RowFault.TheVariants.{Width, Kind, Long, Null, Size}

@@ -1,6 +1,6 @@
 use Rattle.std.specs.Prelude.{Bool}
 use Rattle.pk_values.specs.declared.value.Value.{Value}
-use Rattle.pk_parse.specs.declared.declaration.ColumnDecl.{ColumnDecl}
+use Rattle.pk_syntax.specs.declared.declaration.ColumnDecl.{ColumnDecl}
 use Rattle.pk_schema.specs.declared.admitting.Check.{Check}
 use Rattle.pk_schema.specs.declared.admitting.Check.TheVariants.{Kind, Length, Known}
 use Rattle.pk_schema.specs.Admits.{has_other_kind, is_long, is_missing}

@@ -9,8 +9,8 @@ use Rattle.pk_values.specs.declared.refusal.Refusal.TheVariants.{NoColumn, Colum
 use Rattle.pk_values.specs.declared.value.Value.{Value}
 use Rattle.pk_values.specs.declared.value.Value.TheVariants as values
 use Rattle.pk_values.specs.Refusals.{first_some}
-use Rattle.pk_parse.specs.declared.declaration.ColumnDecl.{ColumnDecl}
-use Rattle.pk_parse.specs.declared.declaration.KeyText.{KeyText}
+use Rattle.pk_syntax.specs.declared.declaration.ColumnDecl.{ColumnDecl}
+use Rattle.pk_syntax.specs.declared.declaration.KeyText.{KeyText}
 use Rattle.pk_schema.specs.declared.admitting.RowFault.{RowFault}
 use Rattle.pk_schema.specs.declared.admitting.RowFault.TheVariants as faults
 use Rattle.pk_schema.specs.Shapes.{shape_of, named_of, not_null_of, all_of}
@@ -93,6 +93,7 @@ pub record RowsAtTheirEdges : Type 0 where
   pub missing : fault (values.Null ∷ values.Text (codes "abc") ∷ []) ≡ Some (faults.Null 0)
   pub largest : fault_of_texts 15 143 ≡ None
   pub larger : fault_of_texts 15 144 ≡ Some (faults.Size 4001)
+  pub size_last : row_fault (record { columns = number a true ∷ map (λ name. text name 255) (letters 16); keys = [] }) (values.Null ∷ replicate 16 (values.Text (replicate 255 97))) ≡ Some (faults.Null 0)
 
 pub record DefinitionsAtTheirEdges : Type 0 where
   pub refusals : RefusalsAtTheirEdges

@@ -1,20 +1,17 @@
-use Rattle.std.specs.Prelude.{◌≡◌, ℕ, ◌≤◌, Bool, true, false, not, List, [], ◌∷◌, length, map, Some, None, slice_get, IsTrue, Ok}
+use Rattle.std.specs.Prelude.{◌≡◌, ℕ, ◌^◌, ◌≤◌, ◌<◌, Bool, true, false, not, List, length, Some, None, slice_get, IsTrue}
 use Rattle.std.specs.List.{list_all, zip}
 use Rattle.std.specs.Option.{option_map_or}
 use Rattle.pk_values.specs.declared.refusal.LimitName.TheVariants.{Name, Columns, Keys, Nullable}
 use Rattle.pk_values.specs.declared.refusal.Refusal.TheVariants.{NoColumn, ColumnTwice, Limit}
 use Rattle.pk_values.specs.declared.value.Value.{Value}
 use Rattle.pk_values.specs.ColumnSet.{has_column}
+use Rattle.pk_values.specs.Name.{is_name}
 use Rattle.pk_values.specs.Records.{row_record}
 use Rattle.pk_values.specs.Refusals.{first_some}
 use Rattle.pk_values.specs.Values.{fits_kinds}
-use Rattle.pk_lex.specs.Pieces.{pieces}
-use Rattle.pk_parse.specs.declared.declaration.ColumnDecl.{ColumnDecl}
-use Rattle.pk_parse.specs.declared.declaration.TableDecl.{TableDecl}
-use Rattle.pk_parse.specs.declared.statement.Statement.TheVariants.{Create}
-use Rattle.pk_parse.specs.Declarations.{is_plain, missing_column, column_twice, names_are_short, columns_are_few, keys_are_few, nullable_are_few}
-use Rattle.pk_parse.specs.Parsed.{parsed}
-use Rattle.pk_parse.specs.Printing.{table_text}
+use Rattle.pk_syntax.specs.declared.declaration.ColumnDecl.{ColumnDecl}
+use Rattle.pk_syntax.specs.declared.declaration.TableDecl.{TableDecl}
+use Rattle.pk_syntax.specs.Declarations.{names_in, is_plain, KeysInColumnOrder, missing_column, column_twice, names_are_short, columns_are_few, keys_are_few, nullable_are_few}
 use Rattle.pk_schema.specs.Shapes.{Shape, IsShape, is_plain_name, kinds_of, set_where, shape_of, decl_of}
 use Rattle.pk_schema.specs.Making.{schema_refusals}
 use Rattle.pk_schema.specs.Admits.{Admits, is_long, is_missing}
@@ -39,6 +36,10 @@ AdmittedRowsFit = (s : Shape) (row : List Value) → (Admits s row → FitsShape
 abbrev pub SetsHoldTheirColumns : Type 0
 SetsHoldTheirColumns = (p : ColumnDecl → Bool) (cs : List ColumnDecl) (k : ℕ) → has_column (set_where p cs) k ≡ option_map_or p (slice_get cs k) false
 
+-- whatever the test, the set is one of columns that there are
+abbrev pub SetsAreInside : Type 0
+SetsAreInside = (p : ColumnDecl → Bool) (cs : List ColumnDecl) → set_where p cs < 2 ^ length cs
+
 -- ---- refusals
 
 -- the causes come in this order, whatever comes behind them
@@ -59,12 +60,18 @@ FirstCauseIsTold = (decl : TableDecl) → FirstCause decl
 
 -- ---- declarations
 
--- what is declared for a schema is plain, isn't refused, and makes the same schema
-abbrev pub DeclarationsMakeTheSame : Type 0
-DeclarationsMakeTheSame = (table : List ℕ) (s : Shape) → IsTrue (is_plain_name table) → IsShape s
-    → IsTrue (is_plain (decl_of table s)) × (first_some (schema_refusals (decl_of table s)) ≡ None) × (shape_of (decl_of table s) ≡ s)
+-- a declaration that is plain, whose names are names and which is refused nothing has a name that a table may have, and makes a shape
+abbrev pub DeclarationsMakeShapes : Type 0
+DeclarationsMakeShapes = (decl : TableDecl) → IsTrue (is_plain decl) → IsTrue (list_all is_name (names_in decl)) → first_some (schema_refusals decl) ≡ None
+    → IsTrue (is_plain_name decl.table) × IsShape (shape_of decl)
 
--- and what is printed of it is read as the CREATE TABLE of the same declaration
-abbrev pub PrintedSchemasReadBack : Type 0
-PrintedSchemasReadBack = (table : List ℕ) (s : Shape) → IsTrue (is_plain_name table) → IsShape s
-    → map parsed (pieces (table_text (decl_of table s))) ≡ Ok (Create (decl_of table s)) ∷ []
+-- what is declared for a schema has names for names, is plain, has its keys in column order, is refused nothing, and makes the same schema
+pub record MakesTheSame (table : List ℕ) (s : Shape) : Type 0 where
+  pub names : IsTrue (list_all is_name (names_in (decl_of table s)))
+  pub plain : IsTrue (is_plain (decl_of table s))
+  pub ordered : KeysInColumnOrder (decl_of table s)
+  pub unrefused : first_some (schema_refusals (decl_of table s)) ≡ None
+  pub same : shape_of (decl_of table s) ≡ s
+
+abbrev pub DeclarationsMakeTheSame : Type 0
+DeclarationsMakeTheSame = (table : List ℕ) (s : Shape) → IsTrue (is_plain_name table) → IsShape s → MakesTheSame table s

@@ -5,8 +5,8 @@ use Rattle.pk_values.specs.declared.refusal.LimitName.TheVariants.{Name, Columns
 use Rattle.pk_values.specs.declared.refusal.Refusal.{Refusal}
 use Rattle.pk_values.specs.declared.refusal.Refusal.TheVariants.{NoColumn, ColumnTwice, Limit}
 use Rattle.pk_values.specs.Refusals.{first_some}
-use Rattle.pk_parse.specs.declared.declaration.TableDecl.{TableDecl}
-use Rattle.pk_parse.specs.Declarations.{missing_column, column_twice, names_are_short, columns_are_few, keys_are_few, nullable_are_few}
+use Rattle.pk_syntax.specs.declared.declaration.TableDecl.{TableDecl}
+use Rattle.pk_syntax.specs.Declarations.{missing_column, column_twice, names_are_short, columns_are_few, keys_are_few, nullable_are_few}
 use Rattle.pk_schema.specs.Shapes.{Shape, shape_of}
 use Rattle.pk_schema.specs.declared.making.MakeErr.{MakeErr}
 use Rattle.pk_schema.specs.declared.making.MakeErr.TheVariants.{Refused, Memory}

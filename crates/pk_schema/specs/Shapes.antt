@@ -5,11 +5,11 @@ use Rattle.pk_values.specs.ColumnSet.{has_column, columns}
 use Rattle.pk_values.specs.Name.{is_name}
 use Rattle.pk_values.specs.declared.key.KeyDecl.{KeyDecl}
 use Rattle.pk_values.specs.declared.kind.Kind.{Kind}
-use Rattle.pk_parse.specs.declared.declaration.ColumnDecl.{ColumnDecl}
-use Rattle.pk_parse.specs.declared.declaration.KeyText.{KeyText}
-use Rattle.pk_parse.specs.declared.declaration.TableDecl.{TableDecl}
-use Rattle.pk_parse.specs.Declarations.{has_name, names_of, is_plain_length, twice, is_certain}
-use Rattle.pk_parse.specs.Words.{is_reserved}
+use Rattle.pk_syntax.specs.declared.declaration.ColumnDecl.{ColumnDecl}
+use Rattle.pk_syntax.specs.declared.declaration.KeyText.{KeyText}
+use Rattle.pk_syntax.specs.declared.declaration.TableDecl.{TableDecl}
+use Rattle.pk_syntax.specs.Declarations.{has_name, names_of, is_plain_length, twice, is_certain}
+use Rattle.pk_syntax.specs.Words.{is_reserved}
 
 -- what a table is: its columns, and its keys over them
 pub record Shape : Type 0 where

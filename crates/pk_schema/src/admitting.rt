@@ -1,12 +1,12 @@
 //! What is wrong with a row.
 
 ghost use Rattle.std.specs.Prelude.{◌≡◌, ◌<◌, length, [], ◌∷◌, IfSome};
-ghost use Rattle.pk_parse.specs.Declarations.{first_of};
+ghost use Rattle.pk_syntax.specs.Declarations.{first_of};
 ghost use Rattle.pk_values.specs.Values.{are_bytes, fits_kind, is_null, value_at};
 ghost use Rattle.pk_schema.specs.Admits.{text_length, first_wrong, width_fault, kind_fault, long_fault, null_fault, size_fault};
 ghost use Rattle.pk_schema.specs.Checks.{wrong_of};
 
-use pk_parse::ColumnDecl;
+use pk_syntax::ColumnDecl;
 use pk_values::{Kind, Row, Value};
 
 /// What is wrong with a row, in the order in which it is looked for. Columns count from 0.

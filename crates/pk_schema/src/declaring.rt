@@ -5,7 +5,7 @@ ghost use Rattle.std.specs.List.{list_all};
 ghost use Rattle.pk_values.specs.ColumnSet.{columns as numbers};
 ghost use Rattle.pk_schema.specs.Shapes.{names_at, key_text_of};
 
-use pk_parse::{ColumnDecl, KeyText};
+use pk_syntax::{ColumnDecl, KeyText};
 use pk_values::{ColSet, Items, KeyDecl, Memory, Name};
 use std::alloc::Global;
 

@@ -2,11 +2,11 @@
 
 ghost use Rattle.std.specs.Prelude.{◌≡◌, ℕ, List, map, IfOk};
 ghost use Rattle.std.specs.Option.{option_copied};
-ghost use Rattle.pk_parse.specs.PrimaryNames.{has_name as knows};
-ghost use Rattle.pk_parse.specs.Declarations.{has_name, names_of, twice};
+ghost use Rattle.pk_values.specs.NameSets.{has_name as knows};
+ghost use Rattle.pk_syntax.specs.Declarations.{has_name, names_of, twice};
 
 use crate::named::Named;
-use pk_parse::ColumnDecl;
+use pk_syntax::ColumnDecl;
 use pk_values::{Memory, Name};
 use std::alloc::Global;
 use std::collections::BTreeSet;

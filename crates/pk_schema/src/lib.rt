@@ -16,11 +16,11 @@ mod sets;
 
 pub use admitting::RowFault;
 pub use laws::{
-    admitted_rows_fit, declarations_make_the_same, definitions_at_their_edges, first_cause_is_told,
-    printed_schemas_read_back, sets_hold_their_columns,
+    admitted_rows_fit, declarations_make_shapes, declarations_make_the_same,
+    definitions_at_their_edges, first_cause_is_told, sets_are_inside, sets_hold_their_columns,
 };
 pub use making::MakeErr;
 pub use named::{Named, column_named, column_place, copied_column, copied_columns, twice};
-pub use pk_parse::ColumnDecl as Column;
+pub use pk_syntax::ColumnDecl as Column;
 pub use schema::Schema;
 pub use sets::key_of;

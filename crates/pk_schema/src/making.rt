@@ -4,13 +4,13 @@ ghost use Rattle.std.specs.Prelude.{◌≡◌, ◌||◌, ◌&&◌, nat_le, not, 
 ghost use Rattle.std.specs.List.{find, list_all, flat_map};
 ghost use Rattle.std.specs.Option.{option_copied};
 ghost use Rattle.pk_values.specs.Refusals.{first_some};
-ghost use Rattle.pk_parse.specs.PrimaryNames.{has_name as knows};
-ghost use Rattle.pk_parse.specs.Declarations.{has_name, names_of, missing_column, column_twice, twice, first_of, names_are_short, columns_are_few, keys_are_few, nullable_in, nullable_are_few, is_certain};
+ghost use Rattle.pk_values.specs.NameSets.{has_name as knows};
+ghost use Rattle.pk_syntax.specs.Declarations.{has_name, names_of, missing_column, column_twice, twice, first_of, names_are_short, columns_are_few, keys_are_few, nullable_in, nullable_are_few, is_certain};
 ghost use Rattle.pk_schema.specs.Making.{schema_refusals, no_column, declared_twice, limit_unless};
 
 use crate::known::{column_names, knows, repeated};
 use crate::named::is_among;
-use pk_parse::{ColumnDecl, KeyText, TableDecl};
+use pk_syntax::{ColumnDecl, KeyText, TableDecl};
 use pk_values::{LimitName, Memory, Name, Refusal, Sort};
 use std::alloc::Global;
 use std::collections::BTreeSet;

@@ -2,12 +2,12 @@
 
 ghost use Rattle.std.specs.Prelude.{◌≡◌, ◌<◌, List, ℕ, length, map, IsTrue, IfOk, OnOk, IfSome};
 ghost use Rattle.std.specs.Option.{option_copied};
-ghost use Rattle.pk_parse.specs.Declarations.{has_name, names_of, twice};
+ghost use Rattle.pk_syntax.specs.Declarations.{has_name, names_of, twice};
 ghost use Rattle.std.specs.List.{list_all};
 ghost use Rattle.pk_values.specs.Name.{is_name};
 ghost use Rattle.pk_schema.specs.Shapes.{place_of_column, column_named};
 
-use pk_parse::ColumnDecl;
+use pk_syntax::ColumnDecl;
 use pk_values::{Memory, Name};
 use std::alloc::Global;
 

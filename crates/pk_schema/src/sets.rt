@@ -6,7 +6,7 @@ ghost use Rattle.std.specs.List.{range_with_len};
 ghost use Rattle.pk_schema.specs.Shapes.{all_of, not_null_of, named_of, key_of};
 
 use crate::named::is_among;
-use pk_parse::{ColumnDecl, KeyText};
+use pk_syntax::{ColumnDecl, KeyText};
 use pk_values::{ColSet, KeyDecl, Memory, Name};
 use std::alloc::Global;
 

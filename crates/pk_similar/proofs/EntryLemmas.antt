@@ -6,11 +6,11 @@ use Rattle.pk_values.specs.declared.kind.Kind.{Kind}
 use Rattle.pk_values.specs.declared.kind.Kind.TheVariants as kinds
 use Rattle.pk_values.specs.declared.value.Value.{Value}
 use Rattle.pk_values.specs.declared.value.Value.TheVariants.{Null, Integer, Text}
-use Rattle.pk_values.specs.Values.{is_null, is_known_of, fits_kind, are_bytes}
+use Rattle.pk_values.specs.Values.{is_null, is_known_of, fits_kind, are_bytes, blank}
 use Rattle.pk_values.proofs.ValueOrder.{equal_from_same, same_from_equal}
 use Rattle.pk_similar.specs.Completions.{CompletesEntry}
 use Rattle.pk_similar.specs.Similarity.{weak_entries, strong_entries}
-use Rattle.pk_similar.specs.Filling.{blank, known_or, fill_entry}
+use Rattle.pk_similar.specs.Filling.{known_or, fill_entry}
 
 -- what is known stays in a completion
 pub known_entry_stays : (kind : Kind) (v value : Value) → CompletesEntry kind v value → is_null v ≡ false → value ≡ v

@@ -4,10 +4,10 @@ use Rattle.std.specs.List.{list_all}
 use Rattle.std.proofs.lemmas.Bool.{and_parts, and_from, ltb-true}
 use Rattle.pk_values.specs.declared.kind.Kind.{Kind}
 use Rattle.pk_values.specs.declared.value.Value.{Value}
-use Rattle.pk_values.specs.Values.{is_null, fits_kind, fits_kinds, value_at}
+use Rattle.pk_values.specs.Values.{is_null, fits_kind, fits_kinds, value_at, blank}
 use Rattle.pk_similar.specs.Completions.{CompletesRow, AgreeOn}
 use Rattle.pk_similar.specs.Similarity.{are_below, weak_entries, strong_entries, weak, strong}
-use Rattle.pk_similar.specs.Filling.{kind_at, blank, known_or, fill_entry, fill_values}
+use Rattle.pk_similar.specs.Filling.{kind_at, known_or, fill_entry, fill_values}
 use Rattle.pk_similar.proofs.EntryLemmas.{known_entry_stays, equal_entries_weak, strong_entries_known, fill_entry_turned, known_or_completes, known_or_kept, filled_known, weight, fresh, fresh_known, fresh_entries_strong}
 
 -- what is known in a row stays in its completions

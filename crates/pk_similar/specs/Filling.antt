@@ -1,21 +1,16 @@
 -- The values that two rows may have in common.
-use Rattle.std.specs.Prelude.{ℕ, zero, suc, List, [], ◌∷◌, map, pos}
+use Rattle.std.specs.Prelude.{ℕ, zero, suc, List, [], ◌∷◌, map}
 use Rattle.pk_values.specs.declared.kind.Kind.{Kind}
 use Rattle.pk_values.specs.declared.kind.Kind.TheVariants as kinds
 use Rattle.pk_values.specs.declared.value.Value.{Value}
 use Rattle.pk_values.specs.declared.value.Value.TheVariants.{Null, Integer, Text}
-use Rattle.pk_values.specs.Values.{value_at}
+use Rattle.pk_values.specs.Values.{value_at, blank}
 
 -- the kind of a column, which is of whole numbers behind the last
 abbrev pub kind_at : List Kind → ℕ → Kind
 kind_at [] c = kinds.Integer
 kind_at (k ∷ ks) zero = k
 kind_at (k ∷ ks) (suc c) = kind_at ks c
-
--- the known value that stands for a null: 0, or the empty text
-abbrev pub blank : Kind → Value
-blank kinds.Integer = Integer (pos 0)
-blank kinds.Text = Text []
 
 -- the entry, or another where it is null
 abbrev pub known_or : Value → Value → Value

@@ -1,9 +1,9 @@
 ghost use Rattle.std.specs.Prelude.{◌≡◌, length, IsTrue, IfOk};
 ghost use Rattle.pk_values.specs.ColumnSet.{columns};
-ghost use Rattle.pk_similar.specs.Filling.{blank, fill_entry, fill_values};
+ghost use Rattle.pk_similar.specs.Filling.{fill_entry, fill_values};
 ghost use Rattle.pk_similar.specs.Similarity.{are_below, weak};
 
-use pk_values::{ColSet, Kind, Memory, Row, Value, Words};
+use pk_values::{ColSet, Kind, Memory, Row, Value};
 use std::alloc::Global;
 
 /// The values on the columns of `x`, in their order, that some completion gives both rows, which are
@@ -30,27 +30,7 @@ fn common_value(alloc: Global, v: &Value, w: &Value, kind: Kind) -> Result<Value
     ensures { IfOk result (λ value. value ≡ fill_entry kind v.now w.now) }
 {
     match (v, w) {
-        (Value::Null, Value::Null) => blank_value(alloc, kind),
+        (Value::Null, Value::Null) => Ok(Value::blank(alloc, kind)),
         (Value::Null, known) | (known, _) => known.copy(),
-    }
-}
-
-// 0, or the empty text.
-fn blank_value(alloc: Global, kind: Kind) -> Result<Value, Memory>
-    ensures { IfOk result (λ value. value ≡ blank kind) }
-{
-    match kind {
-        Kind::Integer => Ok(Value::Integer(0)),
-        Kind::Text => empty_text(alloc),
-    }
-}
-
-fn empty_text(alloc: Global) -> Result<Value, Memory>
-    ensures { IfOk result (λ value. value ≡ blank Kind.Text) }
-{
-    match Words::read(alloc, b"") {
-        Ok(words) => Ok(Value::Text(words)),
-        // The empty text is short and UTF-8.
-        Err(_) => Err(Memory),
     }
 }

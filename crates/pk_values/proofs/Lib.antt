@@ -2,9 +2,12 @@ pub mod BitLemmas
 pub mod ColumnLemmas
 pub mod ColumnOrder
 pub mod ListLemmas
+pub mod NameSetLemmas
 pub mod NumberLemmas
 pub mod RangeLemmas
+pub mod RecordLemmas
 pub mod RefusalLemmas
 pub mod RowLemmas
+pub mod SearchLemmas
 pub mod ValueOrder
 pub mod WalkLemmas

@@ -1,4 +1,4 @@
-use Rattle.std.specs.Prelude.{◌≡◌, ℕ, true, ◌==◌, pos, [], ◌∷◌, length}
+use Rattle.std.specs.Prelude.{◌≡◌, ℕ, true, ◌==◌, pos, List, [], ◌∷◌, ◌++◌, length}
 use Rattle.std.specs.List.{list_any}
 use Rattle.std.specs.List.Sorted.{IsStrictlySortedBy}
 use Rattle.std.specs.Cmp.{IsTotalOrder}
@@ -8,8 +8,8 @@ use Rattle.std.specs.declared.cmp.Ordering.TheVariants.{Equal}
 use Rattle.pk_values.specs.declared.value.Value.{Value}
 use Rattle.pk_values.specs.declared.value.Value.TheVariants.{Null, Integer, Text}
 use Rattle.pk_values.specs.ColumnSet.{IsColumnSet, has_column, columns, is_subset, column_set_cmp}
-use Rattle.pk_values.specs.Records.{row_record}
-use Rattle.pk_values.specs.Values.{same_value, value_cmp}
+use Rattle.pk_values.specs.Records.{value_record, row_record, AreStorable}
+use Rattle.pk_values.specs.Values.{IsStorable, same_value, value_cmp}
 
 -- the list of a set's columns has each of its members, no other number, and ascends, so it has each once
 abbrev pub ColumnsAreTheMembers : Type 0
@@ -41,3 +41,12 @@ ValuesAreOrdered = IsTotalOrder value_cmp
 -- the row (1, NULL, 'ab') is kept in 14 bytes
 abbrev pub ExampleIsKept : Type 0
 ExampleIsKept = row_record (Integer (pos 1) ∷ Null ∷ Text (97 ∷ 98 ∷ []) ∷ []) ≡ 1 ∷ 0 ∷ 0 ∷ 0 ∷ 0 ∷ 0 ∷ 0 ∷ 0 ∷ 1 ∷ 0 ∷ 2 ∷ 2 ∷ 97 ∷ 98 ∷ []
+
+-- where the bytes of a value end is told by these bytes themselves, and they are those of no other value
+abbrev pub ValueRecordsEnd : Type 0
+ValueRecordsEnd = (v w : Value) (xs ys : List ℕ) → IsStorable v → IsStorable w
+    → value_record v ++ xs ≡ value_record w ++ ys → (v ≡ w) × (xs ≡ ys)
+
+-- rows are kept in the same bytes only where they are equal, whatever their widths
+abbrev pub RowRecordsDiffer : Type 0
+RowRecordsDiffer = (a b : List Value) → AreStorable a → AreStorable b → row_record a ≡ row_record b → a ≡ b

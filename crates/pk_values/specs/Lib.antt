@@ -1,6 +1,7 @@
 pub mod ColumnSet
 pub mod Laws
 pub mod Name
+pub mod NameSets
 pub mod Records
 pub mod Refusals
 pub mod Values

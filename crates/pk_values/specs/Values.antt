@@ -1,4 +1,4 @@
-use Rattle.std.specs.Prelude.{ℕ, zero, suc, Bool, true, false, ◌&&◌, ◌||◌, List, [], ◌∷◌, Option, Some, None, nat_lt, IsTrue, FitsSigned}
+use Rattle.std.specs.Prelude.{ℕ, zero, suc, Bool, true, false, ◌&&◌, ◌||◌, List, [], ◌∷◌, Option, Some, None, nat_lt, pos, IsTrue, FitsSigned}
 use Rattle.std.specs.Int.{w64}
 use Rattle.std.specs.List.{list_all}
 use Rattle.std.specs.Ordering.{int_cmp, int_eq, nat_cmp}
@@ -46,6 +46,11 @@ fits_kinds [] [] = true
 fits_kinds [] (v ∷ vs) = false
 fits_kinds (k ∷ ks) [] = false
 fits_kinds (k ∷ ks) (v ∷ vs) = fits_kind k v && fits_kinds ks vs
+
+-- the known value that stands for a null: 0, or the empty text
+abbrev pub blank : Kind → Value
+blank kinds.Integer = Integer (pos 0)
+blank kinds.Text = Text []
 
 -- what the code's values are: numbers of 64 bits, and words
 abbrev pub IsStorable : Value → Type 0

@@ -32,8 +32,8 @@ pub use items::Items;
 pub use key::{KeyDecl, Sort};
 pub use kind::Kind;
 pub use laws::{
-    columns_are_the_members, example_is_kept, same_columns_are_one_set, sets_are_ordered,
-    subset_is_inclusion, values_are_ordered,
+    columns_are_the_members, example_is_kept, records_tell_rows, same_columns_are_one_set,
+    sets_are_ordered, subset_is_inclusion, values_are_ordered,
 };
 pub use memory::Memory;
 pub use name::Name;

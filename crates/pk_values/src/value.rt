@@ -1,10 +1,11 @@
 ghost use Rattle.std.specs.Prelude.{◌≡◌, ◌≤◌, length, IfOk};
 ghost use Rattle.pk_values.specs.Records.{value_record};
-ghost use Rattle.pk_values.specs.Values.{kind_of, IsStorable, same_value, value_cmp};
+ghost use Rattle.pk_values.specs.Values.{kind_of, blank, IsStorable, same_value, value_cmp};
 
 use crate::kind::Kind;
 use crate::memory::Memory;
 use crate::words::Words;
+use std::alloc::Global;
 use std::cmp::Ordering;
 
 /// An entry of a row.
@@ -19,6 +20,16 @@ pub enum Value {
 }
 
 impl Value {
+    /// The known value of the kind that stands for a null where any would do: 0, or the empty text.
+    pub fn blank(alloc: Global, kind: Kind) -> Value
+        ensures { result ≡ blank kind }
+    {
+        match kind {
+            Kind::Integer => Value::Integer(0),
+            Kind::Text => Value::Text(Words::empty(alloc)),
+        }
+    }
+
     /// An equal value.
     pub fn copy(&self) -> Result<Value, Memory>
         ensures { IfOk result (λ value. value ≡ self.now) }

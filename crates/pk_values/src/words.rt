@@ -1,4 +1,4 @@
-ghost use Rattle.std.specs.Prelude.{◌≡◌, ◌≤◌, length, IsTrue, IfErr, IfOk};
+ghost use Rattle.std.specs.Prelude.{◌≡◌, ◌≤◌, [], length, IsTrue, IfErr, IfOk};
 ghost use Rattle.pk_values.specs.Words.{is_words, IsCause};
 
 use crate::memory::Memory;
@@ -38,6 +38,15 @@ pub enum WordsErr {
 }
 
 impl Words {
+    /// The words of no byte.
+    pub fn empty(alloc: Global) -> Words
+        ensures { result ≡ [] }
+    {
+        Words {
+            bytes: Vec::new(alloc),
+        }
+    }
+
     /// The words of these bytes. `TooLong` comes exactly above 255 bytes, and `NotUtf8` exactly where
     /// there are at most 255 that aren't UTF-8.
     pub fn read(alloc: Global, bytes: &[u8]) -> Result<Words, WordsErr>
@@ -68,7 +77,7 @@ impl Words {
     /// How many bytes the words have, at most 255.
     pub fn len(&self) -> u32
         ensures bytes { result ≡ length self.now }
-        ensures most { result ≤ MOST_BYTES }
+        ensures most { result ≤ 255 }
     {
         self.bytes.len() as u32
     }

@@ -1,0 +1,4 @@
+pub mod Recorded
+pub mod Chains
+pub mod Crashes
+pub mod Honesty

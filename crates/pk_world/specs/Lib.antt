@@ -2,4 +2,13 @@ pub mod Rose
 pub mod Pull
 pub mod Listed
 pub mod MemorySource
+pub mod Files
+pub mod Disk
+pub mod Clock
+pub mod Station
+pub mod History
+pub mod Crash
+pub mod MemoryFiles
 pub mod MemoryStation
+pub mod MemoryLaws
+pub mod Laws

@@ -1,3 +1,4 @@
+use crate::station::Failed;
 use pk_values::Memory;
 use std::alloc::{AllocError, AllocFailed};
 
@@ -42,5 +43,16 @@ impl<T: Drop> From<AllocFailed<T>> for StoreErr {
 
     fn from(_error: AllocFailed<T>) -> StoreErr {
         StoreErr::Memory
+    }
+}
+
+impl From<Failed> for StoreErr {
+    ghost use Rattle.std.specs.Prelude.{◌≡◌};
+    ghost use Rattle.pk_world.specs.declared.store_err.StoreErr.TheVariants as causes;
+
+    ghost from_gives = { λ _ e. e ≡ causes.Disk };
+
+    fn from(_error: Failed) -> StoreErr {
+        StoreErr::Disk
     }
 }

@@ -4,15 +4,15 @@ ghost use Rattle.std.specs.Prelude.{◌≡◌, ◌≤◌, vec_len, IfOk, IsTrue}
 
 use crate::engine::Engine;
 use crate::table::Stored;
-use pk_parse::TableDecl;
 use pk_report::Reply;
-use pk_schema::{MakeErr, Schema};
+use pk_schema::{MakeErr, Schema, declarations_make_shapes};
+use pk_syntax::{Statement, TableDecl};
 use pk_values::{Memory, Refusal};
 
 impl Engine {
     ghost use Rattle.std.specs.Prelude.{[], ◌∷◌, ◌++◌, ◌<◌, length, Err};
     ghost use Rattle.pk_engine.specs.Place.{IsPlaceOf};
-    ghost use Rattle.pk_parse.specs.Declarations.{is_plain};
+    ghost use Rattle.pk_syntax.specs.Given.{IsGiven};
     ghost use Rattle.pk_schema.specs.Shapes.{shape_of};
     ghost use Rattle.pk_schema.specs.Making.{schema_refusals};
     ghost use Rattle.pk_engine.specs.State.{State};
@@ -20,10 +20,11 @@ impl Engine {
     ghost use Rattle.pk_engine.specs.Limits.{most_tables, most_ids, tables_full, commits_full};
     ghost use Rattle.pk_engine.specs.Create.{create_refusals, created};
     ghost use Rattle.pk_engine.specs.Stands.{StandsFor, Replies, Moves};
+    ghost use Rattle.pk_engine.specs.Valid.{is_table_name};
 
     // The answer to CREATE TABLE.
     pub(super) fn create(&mut self, declared: &TableDecl) -> Result<Reply, Memory>
-        requires plain { IsTrue (is_plain declared.now) }
+        requires given { IsGiven (Statement.Create declared.now) }
         requires stands { (st : State) × StandsFor self.old st }
         ensures reply { IfOk result (λ r. Replies (λ st. decided st (create_refusals st declared.now) (created st declared.now)) self.old r) }
         ensures next { IfOk result (λ _. Moves (λ st. decided st (create_refusals st declared.now) (created st declared.now)) self.old self.new) }
@@ -38,12 +39,13 @@ impl Engine {
 
     // The answer where no table has the name, and this is the place for it.
     fn create_at(&mut self, place: usize, declared: &TableDecl) -> Result<Reply, Memory>
-        requires plain { IsTrue (is_plain declared.now) }
+        requires given { IsGiven (Statement.Create declared.now) }
         requires within { place ≤ vec_len self.old.tables }
         requires free { IsPlaceOf declared.now.table self.old.tables.items (Err place) }
         ensures reply { IfOk result (λ r. Replies (λ st. decided st (schema_refusals declared.now ++ (tables_full st ∷ commits_full st ∷ [])) (created st declared.now)) self.old r) }
         ensures next { IfOk result (λ _. Moves (λ st. decided st (schema_refusals declared.now ++ (tables_full st ∷ commits_full st ∷ [])) (created st declared.now)) self.old self.new) }
     {
+        declarations_make_shapes();
         match Schema::make(self.alloc, declared) {
             Ok(schema) => self.make_table(place, declared, schema),
             Err(MakeErr::Refused(refusal)) => Ok(Reply::Refused(refusal)),
@@ -60,6 +62,7 @@ impl Engine {
     ) -> Result<Reply, Memory>
         requires within { place ≤ vec_len self.old.tables }
         requires free { IsPlaceOf declared.now.table self.old.tables.items (Err place) }
+        requires named { IsTrue (is_table_name declared.now.table) }
         requires schema { schema ≡ shape_of declared.now }
         ensures reply { IfOk result (λ r. Replies (λ st. decided st (tables_full st ∷ commits_full st ∷ []) (created st declared.now)) self.old r) }
         ensures next { IfOk result (λ _. Moves (λ st. decided st (tables_full st ∷ commits_full st ∷ []) (created st declared.now)) self.old self.new) }
@@ -82,6 +85,7 @@ impl Engine {
     ) -> Result<Reply, Memory>
         requires within { place ≤ vec_len self.old.tables }
         requires free { IsPlaceOf declared.now.table self.old.tables.items (Err place) }
+        requires named { IsTrue (is_table_name declared.now.table) }
         requires schema { schema ≡ shape_of declared.now }
         requires tables { length self.old.tables.items < most_tables }
         requires commits { self.old.commit < most_ids }

@@ -1,19 +1,20 @@
 //! INSERT, UPDATE and DELETE.
 
-ghost use Rattle.std.specs.Prelude.{◌≡◌, ◌<◌, ◌-◌, ◌^◌, ◌&&◌, length, min, IfOk, IsTrue, Some, slice_get};
-ghost use Rattle.std.specs.List.{list_all};
+ghost use Rattle.std.specs.Prelude.{◌≡◌, ◌<◌, ◌-◌, ◌^◌, length, min, IfOk, Some, slice_get};
 ghost use Rattle.pk_engine.specs.Edits.{is_unchanged};
 
 use crate::engine::{Engine, no_table};
+use crate::laws::statements_make_entries;
 use crate::outcome::Outcome;
-use pk_parse::{Delete, Insert, Update};
+use pk_guard::keys_hold_where_nothing_breaks;
 use pk_report::Reply;
+use pk_syntax::{Delete, Insert, Statement, Update};
 use pk_values::{Changes, Memory, Refusal};
 
 impl Engine {
     ghost use Rattle.std.specs.Prelude.{Ok, None, ◌∷◌, []};
     ghost use Rattle.pk_values.specs.Refusals.{first_some};
-    ghost use Rattle.pk_parse.specs.Given.{has_utf8, cond_has_utf8};
+    ghost use Rattle.pk_syntax.specs.Given.{IsGiven};
     ghost use Rattle.pk_engine.specs.Base.{Table, row_count};
     ghost use Rattle.pk_engine.specs.Entries.{AreOf};
     ghost use Rattle.pk_engine.specs.Place.{IsPlaceOf};
@@ -25,7 +26,7 @@ impl Engine {
 
     // The answer to INSERT.
     pub(super) fn insert(&mut self, insert: &Insert) -> Result<Reply, Memory>
-        requires texts { IsTrue (list_all (list_all has_utf8) insert.now.rows) }
+        requires given { IsGiven (Statement.Insert insert.now) }
         requires stands { (st : State) × StandsFor self.old st }
         ensures reply { IfOk result (λ r. Replies (λ st. about st insert.now.table (λ t. decided st (insert_refusals st t insert.now) (inserted st t insert.now))) self.old r) }
         ensures next { IfOk result (λ _. Moves (λ st. about st insert.now.table (λ t. decided st (insert_refusals st t insert.now) (inserted st t insert.now))) self.old self.new) }
@@ -37,12 +38,13 @@ impl Engine {
     }
 
     fn insert_at(&mut self, place: usize, insert: &Insert) -> Result<Reply, Memory>
-        requires texts { IsTrue (list_all (list_all has_utf8) insert.now.rows) }
+        requires given { IsGiven (Statement.Insert insert.now) }
         requires stands { (st : State) × StandsFor self.old st }
         requires found { IsPlaceOf insert.now.table self.old.tables.items (Ok place) }
         ensures reply { IfOk result (λ r. RepliesAt place (λ st t. decided st (insert_refusals st t insert.now) (inserted st t insert.now)) self.old r) }
         ensures next { IfOk result (λ _. MovesAt place (λ st t. decided st (insert_refusals st t insert.now) (inserted st t insert.now)) self.old self.new) }
     {
+        statements_make_entries();
         match self.tables[place].insert(insert)? {
             Outcome::Done { n, changes } => self.settle(place, changes, Reply::Inserted { n }),
             Outcome::Refused(refusal) => Ok(Reply::Refused(refusal)),
@@ -51,7 +53,7 @@ impl Engine {
 
     // The answer to UPDATE.
     pub(super) fn update(&mut self, update: &Update) -> Result<Reply, Memory>
-        requires texts { IsTrue (list_all (λ s. has_utf8 s.value) update.now.sets && cond_has_utf8 update.now.cond) }
+        requires given { IsGiven (Statement.Update update.now) }
         requires stands { (st : State) × StandsFor self.old st }
         ensures reply { IfOk result (λ r. Replies (λ st. about st update.now.table (λ t. decided st (update_refusals st t update.now) (updated_rows st t update.now))) self.old r) }
         ensures next { IfOk result (λ _. Moves (λ st. about st update.now.table (λ t. decided st (update_refusals st t update.now) (updated_rows st t update.now))) self.old self.new) }
@@ -63,12 +65,13 @@ impl Engine {
     }
 
     fn update_at(&mut self, place: usize, update: &Update) -> Result<Reply, Memory>
-        requires texts { IsTrue (list_all (λ s. has_utf8 s.value) update.now.sets && cond_has_utf8 update.now.cond) }
+        requires given { IsGiven (Statement.Update update.now) }
         requires stands { (st : State) × StandsFor self.old st }
         requires found { IsPlaceOf update.now.table self.old.tables.items (Ok place) }
         ensures reply { IfOk result (λ r. RepliesAt place (λ st t. decided st (update_refusals st t update.now) (updated_rows st t update.now)) self.old r) }
         ensures next { IfOk result (λ _. MovesAt place (λ st t. decided st (update_refusals st t update.now) (updated_rows st t update.now)) self.old self.new) }
     {
+        statements_make_entries();
         match self.tables[place].update(update)? {
             Outcome::Done { n, changes } => self.settle(place, changes, Reply::Updated { n }),
             Outcome::Refused(refusal) => Ok(Reply::Refused(refusal)),
@@ -77,7 +80,7 @@ impl Engine {
 
     // The answer to DELETE.
     pub(super) fn delete(&mut self, delete: &Delete) -> Result<Reply, Memory>
-        requires texts { IsTrue (cond_has_utf8 delete.now.cond) }
+        requires given { IsGiven (Statement.Delete delete.now) }
         requires stands { (st : State) × StandsFor self.old st }
         ensures reply { IfOk result (λ r. Replies (λ st. about st delete.now.table (λ t. decided st (delete_refusals st t delete.now) (deleted_rows st t delete.now))) self.old r) }
         ensures next { IfOk result (λ _. Moves (λ st. about st delete.now.table (λ t. decided st (delete_refusals st t delete.now) (deleted_rows st t delete.now))) self.old self.new) }
@@ -89,12 +92,13 @@ impl Engine {
     }
 
     fn delete_at(&mut self, place: usize, delete: &Delete) -> Result<Reply, Memory>
-        requires texts { IsTrue (cond_has_utf8 delete.now.cond) }
+        requires given { IsGiven (Statement.Delete delete.now) }
         requires stands { (st : State) × StandsFor self.old st }
         requires found { IsPlaceOf delete.now.table self.old.tables.items (Ok place) }
         ensures reply { IfOk result (λ r. RepliesAt place (λ st t. decided st (delete_refusals st t delete.now) (deleted_rows st t delete.now)) self.old r) }
         ensures next { IfOk result (λ _. MovesAt place (λ st t. decided st (delete_refusals st t delete.now) (deleted_rows st t delete.now)) self.old self.new) }
     {
+        statements_make_entries();
         match self.tables[place].delete(delete)? {
             Outcome::Done { n, changes } => self.settle(place, changes, Reply::Deleted { n }),
             Outcome::Refused(refusal) => Ok(Reply::Refused(refusal)),
@@ -152,6 +156,7 @@ impl Engine {
         requires free { (st : State) (t : Table) → StandsFor self.old st → slice_get self.old.tables.items place ≡ Some t → first_some (change_refusals st t changes) ≡ None }
         ensures { IfOk result (λ _. (st : State) (t : Table) → StandsFor self.old st → slice_get self.old.tables.items place ≡ Some t → StandsFor self.new (with_commit st (Changed ((t.name, changes) ∷ [])))) }
     {
+        keys_hold_where_nothing_breaks();
         self.tables[place].change(changes)?;
         self.rows = rows;
         self.commit += 1;

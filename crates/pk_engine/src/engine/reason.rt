@@ -3,8 +3,8 @@
 ghost use Rattle.std.specs.Prelude.{IfOk};
 
 use crate::engine::{Engine, no_table};
-use pk_parse::KeyText;
 use pk_report::Reply;
+use pk_syntax::KeyText;
 use pk_values::{Memory, Name};
 
 impl Engine {

@@ -1,17 +1,17 @@
 //! SELECT.
 
-ghost use Rattle.std.specs.Prelude.{◌≡◌, IfOk, IsTrue};
+ghost use Rattle.std.specs.Prelude.{◌≡◌, IfOk};
 ghost use Rattle.pk_engine.specs.Select.{told_as};
 
 use crate::engine::{Engine, no_table};
 use pk_exec::{ExecErr, Selected};
-use pk_parse::{Select, What};
 use pk_report::Reply;
+use pk_syntax::{Select, Statement, What};
 use pk_values::Memory;
 
 impl Engine {
     ghost use Rattle.std.specs.Prelude.{Ok};
-    ghost use Rattle.pk_parse.specs.Given.{cond_has_utf8};
+    ghost use Rattle.pk_syntax.specs.Given.{IsGiven};
     ghost use Rattle.pk_bind.specs.Select.{select_refusals};
     ghost use Rattle.pk_engine.specs.Place.{IsPlaceOf};
     ghost use Rattle.pk_engine.specs.State.{State};
@@ -21,7 +21,7 @@ impl Engine {
 
     // The answer to SELECT.
     pub(super) fn select(&self, select: &Select) -> Result<Reply, Memory>
-        requires texts { IsTrue (cond_has_utf8 select.now.cond) }
+        requires given { IsGiven (Statement.Select select.now) }
         requires stands { (st : State) × StandsFor self.now st }
         ensures reply { IfOk result (λ r. Replies (λ st. about st select.now.table (λ t. decided st (select_refusals t.shape select.now) (selected_rows st t select.now))) self.now r) }
         ensures next { Moves (λ st. about st select.now.table (λ t. decided st (select_refusals t.shape select.now) (selected_rows st t select.now))) self.now self.now }
@@ -33,7 +33,7 @@ impl Engine {
     }
 
     fn select_at(&self, place: usize, select: &Select) -> Result<Reply, Memory>
-        requires texts { IsTrue (cond_has_utf8 select.now.cond) }
+        requires given { IsGiven (Statement.Select select.now) }
         requires stands { (st : State) × StandsFor self.now st }
         requires found { IsPlaceOf select.now.table self.now.tables.items (Ok place) }
         ensures { IfOk result (λ r. RepliesAt place (λ st t. decided st (select_refusals t.shape select.now) (selected_rows st t select.now)) self.now r) }

@@ -6,14 +6,14 @@ ghost use Rattle.std.specs.List.{list_all};
 use crate::outcome::Outcome;
 use crate::table::Stored;
 use pk_exec::{ExecErr, InsertErr, ListView, Selected, Work};
-use pk_parse::{Delete, Insert, Select, Update};
+use pk_syntax::{Delete, Insert, Select, Update};
 use pk_values::Memory;
 
 // The number of the one table that the work of a statement is about.
 const TABLE: u32 = 1;
 
 impl Stored {
-    ghost use Rattle.pk_parse.specs.Given.{has_utf8, cond_has_utf8};
+    ghost use Rattle.pk_syntax.specs.Given.{has_utf8, cond_has_utf8};
     ghost use Rattle.pk_bind.specs.Conditions.{cond_asked};
     ghost use Rattle.pk_bind.specs.Select.{select_refusals};
     ghost use Rattle.pk_exec.specs.Answers.{Answers};

@@ -1,7 +1,7 @@
 //! What the keys of a table imply, which its schema alone tells.
 
 ghost use Rattle.std.specs.Prelude.{◌≡◌, ◌+◌, ◌<◌, ◌^◌, length, IfOk};
-ghost use Rattle.pk_parse.specs.Declarations.{names_of};
+ghost use Rattle.pk_syntax.specs.Declarations.{names_of};
 ghost use Rattle.pk_rule.specs.Plain.{plain_of};
 ghost use Rattle.pk_rule.specs.TwoRows.{low_row, high_row};
 ghost use Rattle.pk_engine.specs.Reasoning.{implied_reply, IsToldAs};
@@ -9,9 +9,9 @@ ghost use Rattle.pk_engine.specs.Reasoning.{implied_reply, IsToldAs};
 use crate::table::Stored;
 use pk_examples::{TwoRows, two_rows};
 use pk_imply::{AskErr, asked_key, cover, derive, implies};
-use pk_parse::KeyText;
 use pk_report::Reply;
 use pk_schema::{Column, Schema};
+use pk_syntax::KeyText;
 use pk_values::{Items, KeyDecl, Memory, Name};
 use std::alloc::Global;
 

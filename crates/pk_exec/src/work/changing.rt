@@ -2,12 +2,12 @@
 
 ghost use Rattle.std.specs.Prelude.{◌≡◌, ◌+◌, ◌&&◌, length, not, nat_le, IsTrue, OnOk};
 ghost use Rattle.std.specs.List.{list_all};
-ghost use Rattle.pk_parse.specs.Given.{has_utf8, cond_has_utf8};
+ghost use Rattle.pk_syntax.specs.Given.{has_utf8, cond_has_utf8};
 ghost use Rattle.pk_schema.specs.Shapes.{Shape};
 ghost use Rattle.pk_bind.specs.Conditions.{cond_asked};
 ghost use Rattle.pk_bind.specs.Update.{edit_of};
 ghost use Rattle.pk_exec.specs.Edits.{taken, updated, deleted};
-ghost use Rattle.pk_exec.specs.Works.{SameElsewhere, size_elsewhere};
+ghost use Rattle.pk_exec.specs.Works.{most_changes, SameElsewhere, size_elsewhere};
 ghost use Rattle.pk_exec.specs.Seen.{Covers, Fits, entries_of};
 ghost use Rattle.pk_exec.specs.Drafts.{change_fits};
 ghost use Rattle.pk_exec.specs.Settling.{IsSettled, IsChanged};
@@ -20,10 +20,10 @@ use crate::draft::{Draft, drafted};
 use crate::exec_err::ExecErr;
 use crate::table_edits::TableEdits;
 use crate::view::View;
-use crate::work::Work;
+use crate::work::{MOST_CHANGES, Work};
 use pk_bind::{Bound, bind_delete, bind_update};
-use pk_parse::{Delete, Update};
 use pk_schema::Schema;
+use pk_syntax::{Delete, Update};
 use pk_values::Refusal;
 
 impl Work {
@@ -124,9 +124,9 @@ impl Work {
     }
 }
 
-// Whether so many changed rows of other tables, edits of the base and new rows are more than 20,000.
+// Whether so many changed rows of other tables, edits of the base and new rows are too many.
 fn is_too_much(elsewhere: u64, edited: usize, added: usize) -> bool
-    ensures { result ≡ not (nat_le (elsewhere + (edited + added)) 20000) }
+    ensures { result ≡ not (nat_le (elsewhere + (edited + added)) most_changes) }
 {
-    u128::from(elsewhere) + edited as u128 + added as u128 > 20_000
+    u128::from(elsewhere) + edited as u128 + added as u128 > u128::from(MOST_CHANGES)
 }

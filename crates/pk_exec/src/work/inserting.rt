@@ -3,10 +3,10 @@
 ghost use Rattle.std.specs.Prelude.{◌≡◌, ◌+◌, ◌≤◌, ◌∷◌, [], List, length, IsTrue, OnOk};
 ghost use Rattle.std.specs.List.{list_all};
 ghost use Rattle.pk_values.specs.declared.placed.Placed.{Placed};
-ghost use Rattle.pk_parse.specs.Given.{has_utf8};
+ghost use Rattle.pk_syntax.specs.Given.{has_utf8};
 ghost use Rattle.pk_bind.specs.Insert.{new_rows};
 ghost use Rattle.pk_exec.specs.Edits.{inserted_into};
-ghost use Rattle.pk_exec.specs.Works.{SameElsewhere, work_size, edits_at, edit_count, with_table, add_rows};
+ghost use Rattle.pk_exec.specs.Works.{most_changes, SameElsewhere, work_size, edits_at, edit_count, with_table, add_rows};
 ghost use Rattle.pk_exec.specs.Seen.{Covers, Fits, entries_of};
 ghost use Rattle.pk_exec.specs.Refusals.{work_insert_refusals, many_changes};
 ghost use Rattle.pk_exec.specs.Answers.{InsertAnswers, OnInsertRefusal};
@@ -15,8 +15,8 @@ use crate::insert_err::InsertErr;
 use crate::table_edits::TableEdits;
 use crate::work::{MOST_CHANGES, Work};
 use pk_bind::{Bound, bind_insert};
-use pk_parse::Insert;
 use pk_schema::Schema;
+use pk_syntax::Insert;
 use pk_values::{Items, Memory, Refusal, Row};
 
 impl Work {
@@ -55,7 +55,7 @@ impl Work {
 
     // Puts these rows behind all others.
     fn append(&mut self, table: u32, rows: Vec<Row>) -> Result<(), Memory>
-        requires { work_size self.old + length rows.items ≤ 20000 }
+        requires { work_size self.old + length rows.items ≤ most_changes }
         ensures { OnOk result (self.new ≡ with_table (add_rows rows.items (edits_at self.old table)) self.old) }
     {
         let place = self.place_of(table);

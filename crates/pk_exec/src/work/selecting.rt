@@ -1,8 +1,8 @@
 //! SELECT, and all rows.
 
 ghost use Rattle.std.specs.Prelude.{◌≡◌, [], map, All, IsTrue, IfOk};
-ghost use Rattle.pk_parse.specs.Declarations.{names_of};
-ghost use Rattle.pk_parse.specs.Given.{cond_has_utf8};
+ghost use Rattle.pk_syntax.specs.Declarations.{names_of};
+ghost use Rattle.pk_syntax.specs.Given.{cond_has_utf8};
 ghost use Rattle.pk_schema.specs.Shapes.{Shape};
 ghost use Rattle.pk_schema.specs.Admits.{Admits};
 ghost use Rattle.pk_bind.specs.Fitting.{shown_fits};
@@ -18,15 +18,15 @@ ghost use Rattle.pk_exec.specs.Views.{IsLeft, HasCause, HasStoreCause};
 
 use crate::exec_err::ExecErr;
 use crate::ordering::sort_rows;
-use crate::reading::{Keep, taken_rows};
+use crate::reading::{counted_rows, taken_rows};
 use crate::selected::Selected;
-use crate::showing::{header, shown_rows};
+use crate::showing::{empty_rows, header, shown_rows};
 use crate::view::View;
 use crate::work::Work;
 use pk_bind::{Bound, OrderBy, Selection, Shown, bind_select};
 use pk_logic::Cond;
-use pk_parse::Select;
 use pk_schema::{Column, Schema};
+use pk_syntax::Select;
 use pk_values::{Items, Row};
 use pk_world::StoreErr;
 
@@ -62,7 +62,7 @@ impl Work {
         ensures cause { HasStoreCause V.View view.old view.new result }
     {
         let (edited, added) = self.edits_of(table);
-        let rows = taken_rows(self.alloc, view, edited, added, &None, Keep::Values)?;
+        let rows = taken_rows(self.alloc, view, edited, added, &None)?;
         Ok(Items::from_vec(rows))
     }
 
@@ -108,7 +108,7 @@ impl Work {
         ensures cause { HasStoreCause V.View view.old view.new result }
     {
         let (edited, added) = self.edits_of(table);
-        let mut rows = taken_rows(self.alloc, view, edited, added, cond, Keep::Values)?;
+        let mut rows = taken_rows(self.alloc, view, edited, added, cond)?;
         sort_rows(&mut rows, order)?;
         Ok(rows)
     }
@@ -126,10 +126,10 @@ impl Work {
         ensures cause { HasStoreCause V.View view.old view.new result }
     {
         let (edited, added) = self.edits_of(table);
-        let rows = taken_rows(self.alloc, view, edited, added, cond, Keep::Number)?;
+        let n = counted_rows(view, edited, added, cond)?;
         Ok(Selected {
             header: Items::from_vec(Vec::new(self.alloc)),
-            rows: shown_rows(self.alloc, rows.as_slice(), &[])?,
+            rows: empty_rows(self.alloc, n)?,
         })
     }
 }

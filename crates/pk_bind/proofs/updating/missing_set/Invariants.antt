@@ -1,6 +1,6 @@
 use Rattle.std.proofs.Common.{◌≡◌, drop}
 use Rattle.pk_values.specs.Refusals.{first_by}
-use Rattle.pk_parse.specs.declared.edit.SetPart.{SetPart}
+use Rattle.pk_syntax.specs.declared.edit.SetPart.{SetPart}
 use Rattle.pk_bind.specs.Columns.{no_column}
 use Rattle.pk_bind.proofs.updating.missing_set.Given as goal
 

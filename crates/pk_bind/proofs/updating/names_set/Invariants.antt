@@ -1,5 +1,5 @@
 use Rattle.std.proofs.Common.{◌≡◌, map, take}
-use Rattle.pk_parse.specs.declared.edit.SetPart.{SetPart}
+use Rattle.pk_syntax.specs.declared.edit.SetPart.{SetPart}
 use Rattle.pk_bind.proofs.updating.names_set.Given as goal
 
 -- the names so far

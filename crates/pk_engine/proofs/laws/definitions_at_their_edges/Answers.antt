@@ -47,6 +47,9 @@ returns-clause-changes c = record {
 pub returns-clause-limits : goal.returns-clause-limits
 unfolding columns same_value fill_values strong place_of_column set_where no_column declared_twice first_pair first_broken first_break table_named with_row with_rows changed_by change_table table_exists key_broken after current
 returns-clause-limits c = record {
+  the_last_row = refl;
+  one_row_more = refl;
+  ids = refl;
   the_last_table = refl;
   one_table_more = refl;
   exists_first = refl;

@@ -1,5 +1,5 @@
 use Rattle.std.proofs.Common.{◌∙◌}
-use Rattle.pk_guard.proofs.IdLemmas.{among_searched}
+use Rattle.pk_values.proofs.SearchLemmas.{among_searched}
 use Rattle.pk_engine.proofs.rows.is_among.Goals as goal
 
 pub returns : goal.returns

@@ -1,12 +1,9 @@
-use Rattle.std.proofs.Common.{◌≡◌, ◌∙◌, sym, subst, ap, refl, Some, None, ℕ, List}
+use Rattle.std.proofs.Common.{◌∙◌, sym}
 use Rattle.std.proofs.lemmas.Result.{err_from_is_err_and}
-use Rattle.pk_values.specs.declared.placed.Placed.{Placed}
-use Rattle.pk_exec.specs.Rows.{next_id, has_id}
 use Rattle.pk_exec.specs.Views.{IsLeft}
-use Rattle.pk_exec.proofs.RowsLemmas.{next_row}
 use Rattle.pk_exec.proofs.Walks.{left_trans, drafting_starts, drafting_goes_on, drafting_told, drafting_part, met_there, fewer_left, drafting_refused}
 use Rattle.pk_exec.proofs.AdmitLemmas.{can_change_row}
-use Rattle.pk_exec.proofs.CauseLemmas.{carried, no_blame}
+use Rattle.pk_exec.proofs.CauseLemmas.{carried}
 use Rattle.pk_exec.specs.Bases.{base_rows}
 use Rattle.pk_exec.specs.Drafts.{row_refusal}
 use Rattle.pk_exec.proofs.DraftLemmas.{base_refused}

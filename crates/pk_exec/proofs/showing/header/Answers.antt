@@ -1,5 +1,5 @@
 use Rattle.std.proofs.Common.{◌∙◌, ap, sym}
-use Rattle.pk_parse.specs.declared.declaration.ColumnDecl.{ColumnDecl}
+use Rattle.pk_syntax.specs.declared.declaration.ColumnDecl.{ColumnDecl}
 use Rattle.pk_exec.proofs.RowLemmas.{header_more}
 use Rattle.pk_exec.proofs.showing.header.Goals as goal
 

@@ -1,5 +1,5 @@
 use Rattle.std.proofs.Common.{◌≡◌, map, take}
-use Rattle.pk_parse.specs.Declarations.{names_of}
+use Rattle.pk_syntax.specs.Declarations.{names_of}
 use Rattle.pk_exec.specs.Selecting.{name_of}
 use Rattle.pk_exec.proofs.showing.header.Given as goal
 

@@ -2,7 +2,7 @@ use Rattle.std.proofs.Common.{sym, ◌∙◌, arith, length, subst, IsTrue}
 use Rattle.pk_values.specs.ColumnSet.{columns}
 use Rattle.pk_similar.specs.Similarity.{are_below}
 use Rattle.pk_schema.specs.Shapes.{kinds_of}
-use Rattle.pk_guard.specs.Splits.{standing}
+use Rattle.pk_guard.specs.Changed.{standing}
 use Rattle.pk_guard.proofs.JudgeLemmas.{key_got, break_start, broken_found, broken_next, broken_last}
 use Rattle.pk_guard.proofs.KeyLemmas.{key_below, wide_admitted, key_unbroken}
 use Rattle.pk_guard.proofs.judging.first_break.Goals as goal

@@ -1,7 +1,7 @@
 use Rattle.std.proofs.Common.{◌≡◌, ◌+◌, drop}
 use Rattle.pk_schema.specs.Shapes.{kinds_of}
+use Rattle.pk_guard.specs.Changed.{standing}
 use Rattle.pk_guard.specs.Breaks.{first_broken, first_break}
-use Rattle.pk_guard.specs.Splits.{standing}
 use Rattle.pk_guard.proofs.judging.first_break.Given as goal
 
 -- the keys that are left decide, and the first of them stands at this place

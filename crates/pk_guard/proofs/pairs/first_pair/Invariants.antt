@@ -1,7 +1,7 @@
 use Rattle.std.proofs.Common.{◌≡◌, None, length}
 use Rattle.pk_guard.specs.Breaks.{first_pair}
-use Rattle.pk_guard.specs.Changed.{RowsAscend}
-use Rattle.pk_guard.specs.Splits.{standing, AreWide}
+use Rattle.pk_guard.specs.Changed.{RowsAscend, standing}
+use Rattle.pk_guard.specs.Splits.{AreWide}
 use Rattle.pk_guard.proofs.pairs.first_pair.Given as goal
 
 -- the rows that are left decide, and are as all were

@@ -1,8 +1,8 @@
 use Rattle.std.proofs.Common.{◌≡◌, length}
 use Rattle.std.specs.Prelude.{find}
 use Rattle.pk_guard.specs.Breaks.{breaks}
-use Rattle.pk_guard.specs.Changed.{RowsAscend}
-use Rattle.pk_guard.specs.Splits.{standing, AreWide}
+use Rattle.pk_guard.specs.Changed.{RowsAscend, standing}
+use Rattle.pk_guard.specs.Splits.{AreWide}
 use Rattle.pk_guard.proofs.pairs.first_standing.Given as goal
 
 -- the rows that are left decide, and are as all were

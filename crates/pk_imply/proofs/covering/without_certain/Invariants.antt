@@ -1,7 +1,7 @@
 use Rattle.std.proofs.Common.{◌≡◌, not, filter, take}
 use Rattle.pk_values.specs.declared.key.Sort.TheVariants.{Certain}
 use Rattle.pk_rule.specs.Laws.{key_over}
-use Rattle.pk_imply.specs.Candidates.{some_implies}
+use Rattle.pk_rule.specs.Rule.{some_implies}
 use Rattle.pk_imply.proofs.covering.without_certain.Given as goal
 
 -- what is kept so far

@@ -1,5 +1,5 @@
 use Rattle.std.proofs.Common.{refl}
-use Rattle.pk_parse.specs.Words.{is_reserved, reserved}
+use Rattle.pk_syntax.specs.Words.{is_reserved, reserved}
 use Rattle.pk_parse.specs.Tokens.{after_word, after_symbol, name_at, digits_at}
 use Rattle.pk_parse.specs.Literals.{number_of, null_at, negative_at, literal_at}
 use Rattle.pk_parse.specs.Conditions.{op_at, operand_at, comparison_at, null_test_at, column_test_at, joined_at, unit_at, condition_at}

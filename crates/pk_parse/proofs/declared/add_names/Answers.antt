@@ -1,5 +1,5 @@
 use Rattle.std.proofs.Common.{◌∙◌}
-use Rattle.pk_parse.proofs.PrimarySets.{name_added}
+use Rattle.pk_values.proofs.NameSetLemmas.{name_added}
 use Rattle.pk_parse.proofs.declared.add_names.Goals as goal
 
 pub loop-column-preserved : goal.loop-column-preserved

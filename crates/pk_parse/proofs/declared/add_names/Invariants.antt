@@ -1,7 +1,7 @@
 use Rattle.std.proofs.Common.{◌≡◌, ℕ, List, take, ◌||◌}
 use Rattle.std.specs.List.{list_any}
 use Rattle.std.specs.Str.{bytes_eq}
-use Rattle.pk_parse.specs.PrimaryNames.{has_name}
+use Rattle.pk_values.specs.NameSets.{has_name}
 use Rattle.pk_parse.proofs.declared.add_names.Given as goal
 
 -- the names that were there, and those so far

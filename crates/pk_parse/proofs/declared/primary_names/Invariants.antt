@@ -1,6 +1,6 @@
 use Rattle.std.proofs.Common.{◌≡◌, ℕ, List, take}
 use Rattle.pk_parse.specs.Create.{is_primary}
-use Rattle.pk_parse.specs.PrimaryNames.{has_name}
+use Rattle.pk_values.specs.NameSets.{has_name}
 use Rattle.pk_parse.proofs.declared.primary_names.Given as goal
 
 -- the names of the keys so far

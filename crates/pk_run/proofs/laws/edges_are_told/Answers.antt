@@ -14,12 +14,12 @@ use Rattle.pk_parse.specs.Edits.{tuple_at, listed_at, list_or_none_at, insert_at
 use Rattle.pk_parse.specs.Lists.{list_at, parens_at, names_at}
 use Rattle.pk_parse.specs.Literals.{number_of, null_at, negative_at, literal_at}
 use Rattle.pk_parse.specs.Parsed.{parsed}
-use Rattle.pk_parse.specs.Printing.{table_text}
+use Rattle.pk_syntax.specs.Printing.{table_text}
 use Rattle.pk_parse.specs.Queries.{count_at, columns_at, what_at, direction_at, order_part_at, order_by_at, order_at, select_at}
 use Rattle.pk_parse.specs.Statements.{drop_at, session_at, show_at, implies_at, cover_at, examples_at, over_names_at, over_at, discover_at, statement_at, read}
 use Rattle.pk_parse.specs.Tokens.{after_word, after_symbol, name_at, digits_at}
 use Rattle.pk_parse.specs.Where.{where_at}
-use Rattle.pk_parse.specs.Words.{reserved, is_reserved}
+use Rattle.pk_syntax.specs.Words.{reserved, is_reserved}
 use Rattle.pk_similar.specs.Filling.{fill_values}
 use Rattle.pk_similar.specs.Similarity.{weak, strong}
 use Rattle.pk_schema.specs.Shapes.{place_of_column, column_named, set_where}

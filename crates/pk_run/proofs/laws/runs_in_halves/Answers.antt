@@ -2,8 +2,7 @@ use Rattle.std.proofs.Common.{◌≡◌, List, [], ◌∷◌, ◌++◌, refl, ap
 use Rattle.pk_lex.specs.declared.piece.Piece.{Piece}
 use Rattle.pk_engine.specs.State.{State}
 use Rattle.pk_engine.specs.Refusing.{Step}
-use Rattle.pk_run.specs.Told.{step, run}
-use Rattle.pk_run.specs.Laws.{state_after}
+use Rattle.pk_run.specs.Told.{step, run, state_after}
 use Rattle.pk_run.proofs.laws.runs_in_halves.Goals as goal
 
 run-append : (st : State) (first second : List Piece) → run st (first ++ second) ≡ run st first ++ run (state_after st first) second

@@ -3,7 +3,7 @@ use Rattle.std.specs.Prelude.{IsTrue}
 use Rattle.pk_lex.specs.declared.piece.Piece.{Piece}
 use Rattle.pk_lex.specs.Tokens.{is_lexed}
 use Rattle.pk_run.specs.Told.{step, run, told_by, has_refusal}
-use Rattle.pk_run.proofs.Runs.{GoesOn, goes_on_more, front_of_more, told_from, refused_from, ok_is_no_fault}
+use Rattle.pk_run.proofs.Runs.{GoesOn, goes_on_more, front_of_more, told_from, refused_from, after_from, ok_is_no_fault}
 use Rattle.pk_run.proofs.running.run_pieces.Goals as goal
 use Rattle.pk_run.proofs.running.run_pieces.Goals.{then-refused, else-refused}
 
@@ -53,10 +53,11 @@ loop-piece-preserved g c =
                 (subst (λ (rest : List ℕ). GoesOn (g.W.Station.told c.args.station.now) (g.W.Station.told c.loop-piece.station) (told_by (run st pieces)) rest)
                 (told_from now pieces place piece c.loop-piece-test.true c.piece-item.is) (so_far.2 tells))
                 (ok.told now so_far.1 still)),
+            sym (after_from now pieces place piece c.loop-piece-test.true c.piece-item.is) ∙ so_far.3,
             ap (λ (b : Bool). b || rest) joined
                 ∙ or_assoc c.loop-piece.refused c.in_ok-is_refused.is_refused rest
                 ∙ ap (λ (b : Bool). c.loop-piece.refused || b)
                 (ap (λ (b : Bool). b || rest) (ok.refused now so_far.1) ∙ sym (refused_from now pieces place piece c.loop-piece-test.true c.piece-item.is))
-                ∙ so_far.3,
+                ∙ so_far.4,
           );
     }

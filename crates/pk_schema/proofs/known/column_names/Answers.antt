@@ -1,4 +1,4 @@
-use Rattle.pk_parse.specs.declared.declaration.ColumnDecl.{ColumnDecl}
+use Rattle.pk_syntax.specs.declared.declaration.ColumnDecl.{ColumnDecl}
 use Rattle.pk_schema.proofs.KnownLemmas.{known_more}
 use Rattle.pk_schema.proofs.known.column_names.Goals as goal
 

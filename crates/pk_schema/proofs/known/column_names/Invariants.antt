@@ -1,6 +1,6 @@
 use Rattle.std.proofs.Common.{◌≡◌, ℕ, List, take}
-use Rattle.pk_parse.specs.PrimaryNames.{has_name as knows}
-use Rattle.pk_parse.specs.Declarations.{has_name, names_of}
+use Rattle.pk_values.specs.NameSets.{has_name as knows}
+use Rattle.pk_syntax.specs.Declarations.{has_name, names_of}
 use Rattle.pk_schema.proofs.known.column_names.Given as goal
 
 -- the names of the columns so far

@@ -1,7 +1,7 @@
 use Rattle.std.proofs.Common.{◌≡◌, ℕ, List, map, take}
 use Rattle.std.specs.Prelude.{drop}
-use Rattle.pk_parse.specs.PrimaryNames.{has_name as knows}
-use Rattle.pk_parse.specs.Declarations.{has_name, twice, twice_behind}
+use Rattle.pk_values.specs.NameSets.{has_name as knows}
+use Rattle.pk_syntax.specs.Declarations.{has_name, twice, twice_behind}
 use Rattle.pk_schema.proofs.known.repeated.Given as goal
 
 -- the names behind those that have stood decide, and those that have stood are known

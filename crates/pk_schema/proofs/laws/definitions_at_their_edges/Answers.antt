@@ -35,5 +35,6 @@ returns c = record {
     missing = refl;
     largest = refl;
     larger = refl;
+    size_last = refl;
   };
 }

@@ -1,7 +1,7 @@
 use Rattle.std.proofs.Common.{◌≡◌, length, nat_le}
 use Rattle.std.specs.Prelude.{drop}
 use Rattle.std.specs.List.{list_all}
-use Rattle.pk_parse.specs.Declarations.{names_of}
+use Rattle.pk_syntax.specs.Declarations.{names_of}
 use Rattle.pk_schema.proofs.making.columns_are_short.Given as goal
 
 -- the columns that are left decide

@@ -1,8 +1,8 @@
 use Rattle.std.proofs.Common.{◌≡◌, not}
 use Rattle.std.specs.Prelude.{drop}
 use Rattle.std.specs.List.{find, flat_map}
-use Rattle.pk_parse.specs.declared.declaration.KeyText.{KeyText}
-use Rattle.pk_parse.specs.PrimaryNames.{has_name}
+use Rattle.pk_syntax.specs.declared.declaration.KeyText.{KeyText}
+use Rattle.pk_values.specs.NameSets.{has_name}
 use Rattle.pk_schema.proofs.making.missing_among.Given as goal
 
 -- the keys that are left decide

@@ -1,7 +1,7 @@
 use Rattle.std.proofs.Common.{◌≡◌, not}
 use Rattle.std.specs.Prelude.{drop}
 use Rattle.std.specs.List.{find}
-use Rattle.pk_parse.specs.PrimaryNames.{has_name as knows}
+use Rattle.pk_values.specs.NameSets.{has_name as knows}
 use Rattle.pk_schema.proofs.making.missing_in.Given as goal
 
 -- the names that are left decide

@@ -1,6 +1,6 @@
 use Rattle.std.proofs.Common.{◌≡◌, map}
 use Rattle.std.specs.Prelude.{drop}
-use Rattle.pk_parse.specs.Declarations.{has_name}
+use Rattle.pk_syntax.specs.Declarations.{has_name}
 use Rattle.pk_schema.proofs.named.has_name.Given as goal
 
 -- what is left has the name where all have it

@@ -1,6 +1,6 @@
 use Rattle.std.proofs.Common.{◌≡◌, map, take}
 use Rattle.std.specs.Prelude.{drop}
-use Rattle.pk_parse.specs.Declarations.{twice, twice_behind}
+use Rattle.pk_syntax.specs.Declarations.{twice, twice_behind}
 use Rattle.pk_schema.proofs.named.twice.Given as goal
 
 -- the names behind those that have stood decide

@@ -1,6 +1,6 @@
 use Rattle.std.proofs.Common.{◌^◌, ◌<◌, length, sym, subst}
-use Rattle.pk_parse.specs.declared.declaration.ColumnDecl.{ColumnDecl}
-use Rattle.pk_parse.specs.Declarations.{has_name}
+use Rattle.pk_syntax.specs.declared.declaration.ColumnDecl.{ColumnDecl}
+use Rattle.pk_syntax.specs.Declarations.{has_name}
 use Rattle.pk_schema.proofs.SetLemmas.{set_small}
 use Rattle.pk_schema.proofs.sets.key_of.Goals as goal
 

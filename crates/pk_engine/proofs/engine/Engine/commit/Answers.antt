@@ -16,5 +16,5 @@ change-requires-clause-gone c =
 pub returns : goal.returns
 returns c = λ st t stands is.
     let same = same_at c.args.self.now.tables.items c.args.place t c.index_mut.result.now c.index_mut.ensures.value is in
-    changes_stand c.args.self.now _ st c.args.place t c.args.changes c.args.rows stands is (valid_at c.args.self.now st c.args.place t stands is) (c.requires.of t is)
+    changes_stand c.keys_hold_where_nothing_breaks.ensures c.args.self.now _ st c.args.place t c.args.changes c.args.rows stands is (valid_at c.args.self.now st c.args.place t stands is) (c.requires.of t is)
     (c.requires.free st t stands is) (c.requires.rows st t stands is) refl (search (rules, same)) refl

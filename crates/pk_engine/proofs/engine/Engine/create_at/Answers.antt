@@ -5,7 +5,16 @@ use Rattle.pk_engine.specs.Limits.{tables_full, commits_full}
 use Rattle.pk_engine.specs.Create.{created}
 use Rattle.pk_engine.specs.Stands.{StandsFor}
 use Rattle.pk_engine.proofs.AnswerLemmas.{decided_front}
+use Rattle.pk_engine.proofs.KeptLemmas.{plain_named}
 use Rattle.pk_engine.proofs.engine.Engine.create_at.Goals as goal
+
+pub make-requires : goal.make-requires
+make-requires c = c.requires.given.plain
+
+pub make_table-requires-clause-named : goal.make_table-requires-clause-named
+make_table-requires-clause-named c =
+    let d = c.args.declared.now in
+    plain_named d.table (c.declarations_make_shapes.ensures d c.requires.given.plain c.requires.given.names c.in-Ok.ensures.0).0
 
 pub returns-in-Err-Refused-clause-reply : goal.returns-in-Err-Refused-clause-reply
 returns-in-Err-Refused-clause-reply c = λ st stands.

@@ -13,10 +13,13 @@ use Rattle.pk_engine.specs.Refusing.{Step}
 use Rattle.pk_engine.specs.Stands.{StandsFor}
 use Rattle.pk_engine.proofs.AnswerLemmas.{decided_front}
 use Rattle.pk_engine.proofs.CommitLemmas.{same_at}
-use Rattle.pk_engine.proofs.EditLemmas.{delete_of, settled_is}
+use Rattle.pk_engine.proofs.EditLemmas.{settled_is}
 use Rattle.pk_engine.proofs.OrderLemmas.{blank}
 use Rattle.pk_engine.proofs.StandsLemmas.{stands_table, place_within, if_ok}
 use Rattle.pk_engine.proofs.engine.Engine.delete_at.Goals as goal
+
+pub delete-requires-clause-texts : goal.delete-requires-clause-texts
+delete-requires-clause-texts c = c.requires.given.texts
 
 pub delete-requires-clause-valid : goal.delete-requires-clause-valid
 delete-requires-clause-valid c =
@@ -31,7 +34,7 @@ settle-requires-clause-of c = λ t is.
     let valid = stands_table c.args.self.now c.requires.stands.0 c.args.place u c.requires.stands.1
     (place_within i.table c.args.self.now.tables.items c.args.place blank c.requires.found) c.index.ensures in
     let done = subst (λ o. (λ (x : Table). IsDone (work_delete_refusals x.shape 0 x.rows (entries_in x) i) (length (taken (cond_asked x.shape.columns i.cond) (entries_in x))) (changes_in x (delete_entries x i)) o) u) c.in-Done.is c.in_ok-n.ensures in
-    subst (λ (x : Table). AreOf x c.in-Done.changes) same (subst (AreOf u) (sym done.2) (delete_of u i valid))
+    subst (λ (x : Table). AreOf x c.in-Done.changes) same (subst (AreOf u) (sym done.2) ((c.statements_make_entries.ensures u valid).deletes i))
 
 pub returns-in-Done-clause-reply : goal.returns-in-Done-clause-reply
 returns-in-Done-clause-reply c =

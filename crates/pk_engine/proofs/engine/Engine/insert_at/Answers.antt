@@ -11,10 +11,13 @@ use Rattle.pk_engine.specs.Refusing.{Step}
 use Rattle.pk_engine.specs.Stands.{StandsFor}
 use Rattle.pk_engine.proofs.AnswerLemmas.{decided_front}
 use Rattle.pk_engine.proofs.CommitLemmas.{same_at}
-use Rattle.pk_engine.proofs.EditLemmas.{insert_of, settled_is}
+use Rattle.pk_engine.proofs.EditLemmas.{settled_is}
 use Rattle.pk_engine.proofs.OrderLemmas.{blank}
 use Rattle.pk_engine.proofs.StandsLemmas.{stands_table, place_within, if_ok}
 use Rattle.pk_engine.proofs.engine.Engine.insert_at.Goals as goal
+
+pub insert-requires-clause-texts : goal.insert-requires-clause-texts
+insert-requires-clause-texts c = c.requires.given.texts
 
 pub insert-requires-clause-valid : goal.insert-requires-clause-valid
 insert-requires-clause-valid c =
@@ -29,7 +32,7 @@ settle-requires-clause-of c = λ t is.
     let valid = stands_table c.args.self.now c.requires.stands.0 c.args.place u c.requires.stands.1
     (place_within i.table c.args.self.now.tables.items c.args.place blank c.requires.found) c.index.ensures in
     let done = subst (λ o. (λ (x : Table). IsDone (work_insert_refusals x.shape 0 i) (length i.rows) (changes_in x (insert_entries x i)) o) u) c.in-Done.is c.in_ok-n.ensures in
-    subst (λ (x : Table). AreOf x c.in-Done.changes) same (subst (AreOf u) (sym done.2) (insert_of u i valid c.requires.texts done.0))
+    subst (λ (x : Table). AreOf x c.in-Done.changes) same (subst (AreOf u) (sym done.2) ((c.statements_make_entries.ensures u valid).inserts i c.requires.given done.0))
 
 pub returns-in-Done-clause-reply : goal.returns-in-Done-clause-reply
 returns-in-Done-clause-reply c =

@@ -10,6 +10,9 @@ use Rattle.pk_engine.proofs.OrderLemmas.{blank}
 use Rattle.pk_engine.proofs.StandsLemmas.{stands_table, place_within}
 use Rattle.pk_engine.proofs.engine.Engine.select_at.Goals as goal
 
+pub select-requires-clause-texts : goal.select-requires-clause-texts
+select-requires-clause-texts c = c.requires.given.texts
+
 pub select-requires-clause-valid : goal.select-requires-clause-valid
 select-requires-clause-valid c =
     stands_table c.args.self.now c.requires.stands.0 c.args.place c.index.result.now c.requires.stands.1

@@ -1,5 +1,5 @@
 use Rattle.std.proofs.Common.{List, ℕ, ◌∙◌, ap}
-use Rattle.pk_parse.specs.Printing.{table_text}
+use Rattle.pk_syntax.specs.Printing.{table_text}
 use Rattle.pk_schema.specs.Shapes.{decl_of}
 use Rattle.pk_report.specs.declared.reply.Reply.TheVariants.{Shown}
 use Rattle.pk_engine.specs.Base.{Table}

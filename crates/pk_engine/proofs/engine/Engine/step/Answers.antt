@@ -1,5 +1,5 @@
 use Rattle.std.proofs.Common.{Result, Ok, Err, IfOk, sym, subst}
-use Rattle.pk_parse.specs.declared.statement.Statement.{Statement}
+use Rattle.pk_syntax.specs.declared.statement.Statement.{Statement}
 use Rattle.pk_engine.specs.Answer.{answer}
 use Rattle.pk_engine.specs.Stands.{Replies, Moves}
 use Rattle.pk_engine.proofs.engine.Engine.step.Goals as goal

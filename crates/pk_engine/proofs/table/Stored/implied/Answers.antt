@@ -1,5 +1,5 @@
 use Rattle.std.proofs.Common.{◌≡◌, Ok, Err, sym, subst, ap, ◌∙◌}
-use Rattle.pk_parse.specs.declared.declaration.KeyText.{KeyText}
+use Rattle.pk_syntax.specs.declared.declaration.KeyText.{KeyText}
 use Rattle.pk_report.specs.declared.reply.Reply.{Reply}
 use Rattle.pk_imply.specs.declared.asking.AskErr.{AskErr}
 use Rattle.pk_imply.specs.declared.asking.AskErr.TheVariants as errors

@@ -11,7 +11,7 @@ use Rattle.pk_exec.specs.ListViews.{listed}
 use Rattle.pk_engine.specs.declared.table.editing.TheConstants.{TABLE}
 use Rattle.pk_engine.specs.Base.{Table}
 use Rattle.pk_engine.specs.Edits.{entries_in, update_entries}
-use Rattle.pk_engine.proofs.WorkLemmas.{valid_ascends, new_fits, new_covers, work_settled, update_refusals_are, update_count_is, update_entries_are}
+use Rattle.pk_engine.proofs.WorkLemmas.{valid_ascends, work_settled, update_refusals_are, update_count_is, update_entries_are}
 use Rattle.pk_engine.proofs.table.Stored.update.Goals as goal
 
 pub new-view-requires : goal.new-view-requires
@@ -19,10 +19,10 @@ new-view-requires c =
     rw c.as_slice.ensures.value (subst (λ (t : Table). AscendFrom 1 t.rows) (sym c.self.view_is) (valid_ascends c.args.self.now c.requires.valid))
 
 pub update-requires-clause-fits : goal.update-requires-clause-fits
-update-requires-clause-fits c = new_fits c.self.inside.schema c.new-work.result c.new-work.ensures
+update-requires-clause-fits c = c.new-work.ensures.fits c.self.inside.schema TABLE
 
 pub update-requires-clause-covers : goal.update-requires-clause-covers
-update-requires-clause-covers c = new_covers _ c.new-work.result c.new-work.ensures
+update-requires-clause-covers c = c.new-work.ensures.covers TABLE _
 
 pub done-requires-clause-covers : goal.done-requires-clause-covers
 done-requires-clause-covers c =
@@ -39,9 +39,9 @@ returns-in-Ok c =
     let rows : listed c.new-view.result ≡ t.rows = c.new-view.ensures ∙ c.as_slice.ensures.value ∙ ap (λ (x : Table). x.rows) c.self.view_is in
     let answer = c.in-Ok.ensures.answer refl in
     work_settled (work_update_refusals t.shape 0 t.rows (entries_in t) u) (length (taken (cond_asked t.shape.columns u.cond) (entries_in t))) (update_entries t u) t c.in-Ok.n _ c.done.result
-    (ap first_some (sym (update_refusals_are t s (listed c.new-view.result) w u shape rows c.new-work.ensures)) ∙ answer.0)
-    (answer.1 ∙ update_count_is t s (listed c.new-view.result) w u shape rows c.new-work.ensures)
-    (update_entries_are t s (listed c.new-view.result) w c.update.new.self u shape rows c.new-work.ensures (c.in-Ok.ensures.entries refl))
+    (ap first_some (sym (update_refusals_are t s (listed c.new-view.result) w u shape rows (c.new-work.ensures.entries, c.new-work.ensures.elsewhere))) ∙ answer.0)
+    (answer.1 ∙ update_count_is t s (listed c.new-view.result) w u shape rows (c.new-work.ensures.entries, c.new-work.ensures.elsewhere))
+    (update_entries_are t s (listed c.new-view.result) w c.update.new.self u shape rows (c.new-work.ensures.entries, c.new-work.ensures.elsewhere) (c.in-Ok.ensures.entries refl))
     c.done.ensures
 
 pub returns-in-Err-Refused : goal.returns-in-Err-Refused
@@ -51,4 +51,4 @@ returns-in-Err-Refused c =
     let s = c.self.inside.schema in
     let shape : s ≡ t.shape = ap (λ (x : Table). x.shape) c.self.view_is in
     let rows : listed c.new-view.result ≡ t.rows = c.new-view.ensures ∙ c.as_slice.ensures.value ∙ ap (λ (x : Table). x.rows) c.self.view_is in
-    ap first_some (sym (update_refusals_are t s (listed c.new-view.result) c.new-work.result u shape rows c.new-work.ensures)) ∙ subst (IsCause (work_update_refusals s (size_elsewhere c.new-work.result TABLE) (listed c.new-view.result) (entries_of c.new-work.result TABLE (listed c.new-view.result)) u)) c.in-Err-Refused.field-0-is (c.in-Err-Refused.ensures.answer refl)
+    ap first_some (sym (update_refusals_are t s (listed c.new-view.result) c.new-work.result u shape rows (c.new-work.ensures.entries, c.new-work.ensures.elsewhere))) ∙ subst (IsCause (work_update_refusals s (size_elsewhere c.new-work.result TABLE) (listed c.new-view.result) (entries_of c.new-work.result TABLE (listed c.new-view.result)) u)) c.in-Err-Refused.field-0-is (c.in-Err-Refused.ensures.answer refl)

@@ -1,5 +1,5 @@
 use Rattle.std.proofs.Common.{◌≡◌, take}
-use Rattle.pk_parse.specs.Declarations.{names_of}
+use Rattle.pk_syntax.specs.Declarations.{names_of}
 use Rattle.pk_engine.proofs.table.reasoning.names_of.Given as goal
 
 -- the names so far are those of the columns so far

@@ -1,4 +1,4 @@
-use Rattle.std.proofs.Common.{◌≡◌, ◌<◌, ◌≤◌, ◌∙◌, sym, rules, length, get_or, nat_le, arith}
+use Rattle.std.proofs.Common.{◌≡◌, ◌<◌, ◌≤◌, rules, length, get_or, nat_le}
 use Rattle.std.proofs.lemmas.Fn.{always_returns_same}
 use Rattle.pk_values.specs.declared.placed.Placed.{Placed}
 use Rattle.pk_exec.proofs.ListLemmas.{parted_most, next_found, next_ends, no_row_placed}

@@ -1,6 +1,6 @@
-use Rattle.std.proofs.Common.{◌≡◌, ◌∙◌, ℕ, ◌+◌, ◌≤◌, [], List, ap, sym, subst}
+use Rattle.std.proofs.Common.{◌≡◌, ◌+◌, ◌≤◌, List, sym, subst}
 use Rattle.std.specs.Prelude.{OnOk}
-use Rattle.pk_exec.specs.Works.{IsWork, Edits, TableEdits, add_rows, edits_at, edit_count, size_elsewhere, with_table}
+use Rattle.pk_exec.specs.Works.{most_changes, IsWork, TableEdits, add_rows, edit_count, size_elsewhere, with_table}
 use Rattle.pk_exec.specs.declared.table_edits.EditedRow.{EditedRow}
 use Rattle.pk_exec.proofs.AppendLemmas.{appended_work, appended_tables, edits_absent, rows_fit}
 use Rattle.pk_exec.proofs.work.Work.append.Goals as goal
@@ -22,8 +22,8 @@ put-requires c =
     let k = c.args.table in
     let is = subst IsWork c.self.view_is c.self.invariant in
     let none = edits_absent w k c.place_of-place.result c.is_at.result is c.place_of-place.ensures c.is_at.ensures c.if-is_at.false in
-    subst (λ (es : List EditedRow). size_elsewhere w k + edit_count (record { table = k; edited = es; added = c.args.rows.items }) ≤ 20000) (sym c.new.ensures.items)
-    (subst (λ (t : TableEdits). size_elsewhere w k + edit_count (add_rows c.args.rows.items t) ≤ 20000) none (rows_fit w k c.args.rows.items is c.requires))
+    subst (λ (es : List EditedRow). size_elsewhere w k + edit_count (record { table = k; edited = es; added = c.args.rows.items }) ≤ most_changes) (sym c.new.ensures.items)
+    (subst (λ (t : TableEdits). size_elsewhere w k + edit_count (add_rows c.args.rows.items t) ≤ most_changes) none (rows_fit w k c.args.rows.items is c.requires))
 
 pub returns : goal.returns
 returns c =

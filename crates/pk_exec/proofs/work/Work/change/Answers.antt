@@ -1,8 +1,5 @@
-use Rattle.std.proofs.Common.{◌≡◌, IsTrue, List, All, sym, subst}
-use Rattle.pk_values.specs.declared.value.Value.{Value}
-use Rattle.pk_schema.specs.Shapes.{Shape}
+use Rattle.std.proofs.Common.{IsTrue, All, sym, subst}
 use Rattle.pk_schema.specs.Admits.{Admits}
-use Rattle.pk_exec.specs.declared.table_edits.EditedRow.{EditedRow}
 use Rattle.pk_exec.specs.Drafts.{change_fits}
 use Rattle.pk_exec.specs.Seen.{Fits, IsAdmitted}
 use Rattle.pk_exec.proofs.SettleLemmas.{settled_others, settled_covers, settled_fits, ok_curried}

@@ -1,5 +1,5 @@
-use Rattle.std.proofs.Common.{◌≡◌, ◌∙◌, sym, ap, length, List, rules}
-use Rattle.pk_exec.specs.Works.{Edits, TableEdits}
+use Rattle.std.proofs.Common.{◌≡◌, ◌∙◌, sym, ap, length, rules}
+use Rattle.pk_exec.specs.Works.{Edits}
 use Rattle.pk_exec.proofs.PlaceLemmas.{place_found, place_none}
 use Rattle.pk_exec.proofs.work.Work.place_of.Goals as goal
 

@@ -1,5 +1,5 @@
-use Rattle.std.proofs.Common.{◌≡◌, ◌∙◌, ℕ, List, ap, sym, subst, rules}
-use Rattle.pk_exec.specs.Works.{IsWork, Edits, TableEdits, put_table}
+use Rattle.std.proofs.Common.{◌∙◌, List, ap, sym, subst, rules}
+use Rattle.pk_exec.specs.Works.{IsWork, TableEdits}
 use Rattle.pk_exec.proofs.WorkLemmas.{put_is_work}
 use Rattle.pk_exec.proofs.PlaceLemmas.{put_set, put_insert, put_within}
 use Rattle.pk_exec.proofs.work.Work.put.Goals as goal

@@ -1,4 +1,4 @@
-use Rattle.std.proofs.Common.{◌≡◌, subst}
+use Rattle.std.proofs.Common.{subst}
 use Rattle.pk_bind.specs.Bound.{IsBound}
 use Rattle.pk_bind.specs.Select.{select_refusals, selection_of}
 use Rattle.pk_exec.proofs.SeenLemmas.{selected_is}

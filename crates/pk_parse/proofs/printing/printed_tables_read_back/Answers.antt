@@ -1,5 +1,0 @@
-use Rattle.pk_parse.proofs.PrintReading.{printed_tables_read_back}
-use Rattle.pk_parse.proofs.printing.printed_tables_read_back.Goals as goal
-
-pub returns : goal.returns
-returns c = printed_tables_read_back
