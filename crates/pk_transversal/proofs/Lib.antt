@@ -1,0 +1,10 @@
+pub mod ListLemmas
+pub mod OrderLemmas
+pub mod InsertLemmas
+pub mod SetLemmas
+pub mod MinimalLemmas
+pub mod SiftLemmas
+pub mod MeetLemmas
+pub mod TransversalLemmas
+pub mod ProductLemmas
+pub mod LimitLemmas

@@ -1,0 +1,5 @@
+pub mod Minimal
+pub mod Transversals
+pub mod Steps
+pub mod Laws
+pub mod Edges
