@@ -1,0 +1,5 @@
+pub mod Pairs
+pub mod Coding
+pub mod Meeting
+pub mod Laws
+pub mod Edges
