@@ -12,7 +12,7 @@
 //! Rows are compared by numbers, two of which are equal exactly where two rows have the same value in a
 //! column. Contracts see a set as the number with a bit for each of its columns.
 //!
-//! Not proved is that two threads run at once; a test shows it.
+//! Not proved is that two threads run at once.
 #![tactic(auto)]
 
 mod coding;
