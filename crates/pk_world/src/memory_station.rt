@@ -136,9 +136,12 @@ impl MemoryStation {
 }
 
 impl Station for MemoryStation {
-    ghost use Rattle.std.specs.Prelude.{true};
+    ghost use Rattle.std.specs.Prelude.{◌≡◌, ℕ, ◌+◌, ◌-◌, ◌≤◌, ◌^◌, min, true, false, List, ◌++◌, length, take, is_ok, IsTrue, OnOk, OnErr};
     ghost use Rattle.pk_world.specs.Files.{Files};
-    ghost use Rattle.pk_world.specs.MemoryStation.{taken, files_of, call_count, disk_fault_count, sink_fault_count, MayLeaveNow, MayHaveLeft};
+    ghost use Rattle.pk_world.specs.Listed.{is_listed};
+    ghost use Rattle.pk_world.specs.Clock.{Passes};
+    ghost use Rattle.pk_world.specs.Rose.{Rose};
+    ghost use Rattle.pk_world.specs.MemoryStation.{taken, files_of, failing_calls, call_count, disk_fault_count, sink_fault_count, MayLeaveNow, MayHaveLeft};
     ghost use Rattle.pk_world.specs.MemoryLaws.{counts_now, only_now, earlier, as_read};
 
     ghost tells = { λ _. true };
@@ -203,7 +206,22 @@ impl Station for MemoryStation {
         answer(synced, &mut self.disk_faults)
     }
 
-    fn tell(&mut self, bytes: &[u8]) -> Result<(), Failed> {
+    /// Takes all of the bytes or, where it fails, none of them. It fails where the number of the call is listed, and
+    /// where memory runs out.
+    fn tell(&mut self, bytes: &[u8]) -> Result<(), Failed>
+        ensures listed { IsTrue (is_listed (failing_calls self.old) (min (call_count self.old + 1) (2 ^ 64 - 1))) → is_ok result ≡ false }
+        ensures failing { failing_calls self.new ≡ failing_calls self.old }
+        ensures ok { OnOk result (taken self.new ≡ taken self.old ++ bytes.now) }
+        ensures refused { OnErr result (taken self.new ≡ taken self.old) }
+        ensures err { (n : ℕ) × (n ≤ length bytes.now) × (taken self.new ≡ taken self.old ++ take n bytes.now) }
+        ensures content { files_of self.new ≡ files_of self.old }
+        ensures during { (f : Files) (s : List ℕ) → MayHaveLeft self.new (call_count self.old) f s → MayLeaveNow self.old f × ((n : ℕ) × (n ≤ length bytes.now) × (s ≡ taken self.old ++ take n bytes.now)) }
+        ensures time { Passes (call_count self.old) (call_count self.new) (MayHaveLeft self.old) (MayHaveLeft self.new) }
+        ensures disk { disk_fault_count self.new ≡ disk_fault_count self.old }
+        ensures count { sink_fault_count self.old ≤ sink_fault_count self.new }
+        ensures unfailed { OnOk result (sink_fault_count self.new ≡ sink_fault_count self.old) }
+        ensures cause { OnErr result (Rose (sink_fault_count self.old) (sink_fault_count self.new)) }
+    {
         let Ok(copy) = Vec::from_slice(self.alloc, bytes) else {
             return answer(false, &mut self.sink_faults);
         };

@@ -16,7 +16,7 @@ invariant_of-self-3 c =
     }
 
 pub returns-clause-during : goal.returns-clause-during
-returns-clause-during c = λ honest tells f s left.
+returns-clause-during c = λ f s left.
     tell_during (first_moment (held c.args.self.now.first)) c.args.self.now.calls.items c.note.new.calls.items c.in-Ok.copy c.args.bytes.now
     c.if-not-fails_next.done c.note.result f s c.args.self.now.told.items c.args.self.now.recorded.told c.in-Ok.ensures.items c.note.ensures left
 
