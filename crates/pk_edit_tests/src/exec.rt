@@ -23,6 +23,7 @@ const NUMBER: u32 = 7;
 
 // ---- the base
 
+#[tactic(auto, using(crate::proofs::RowLemmas::one_ascends))]
 fn base(alloc: Global, schema: &Schema) -> Result<Vec<Placed>, Fail>
     ensures ascend { IfOk result (λ rows. AscendFrom 1 rows.items) }
     ensures admitted { IfOk result (λ rows. All (λ p. Admits schema.now p.row) rows.items) }
@@ -86,7 +87,7 @@ fn told(alloc: Global, first: &[u8], second: &[u8]) -> Result<Vec<u8>, Fail> {
     };
     tell_numbers(&mut text, b"first", &[n])?;
     tell_answer(&mut text, &schema, rows.as_slice(), &mut work, &second)?;
-    tell_work(&mut text, &work)?;
+    tell_work(&mut text, &mut work)?;
     Ok(text)
 }
 
@@ -134,7 +135,7 @@ fn tell_edited(text: &mut Vec<u8>, edited: Option<u64>) -> Result<(), Memory> {
     }
 }
 
-fn tell_work(text: &mut Vec<u8>, work: &Work) -> Result<(), Memory> {
+fn tell_work(text: &mut Vec<u8>, work: &mut Work) -> Result<(), Memory> {
     tell_numbers(text, b"; size", &[work.size()])?;
     tell_tables(text, work)?;
     tell_touched(text, work)?;
@@ -155,8 +156,8 @@ fn tell_touched(text: &mut Vec<u8>, work: &Work) -> Result<(), Memory> {
 }
 
 // What becomes of the base, where new rows get the ids from 2 on.
-fn tell_changes(text: &mut Vec<u8>, work: &Work) -> Result<(), Memory> {
-    let changes = work.changes(NUMBER, 2)?;
+fn tell_changes(text: &mut Vec<u8>, work: &mut Work) -> Result<(), Memory> {
+    let changes = work.take_changes(NUMBER, 2)?;
     tell_numbers(text, b"; gone", changes.gone.as_slice())?;
     tell_put(text, changes.put.as_slice())
 }

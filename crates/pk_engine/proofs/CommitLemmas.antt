@@ -1,6 +1,6 @@
 -- A commit of changes that entries make of one table.
 use Rattle.std.proofs.Common.{◌≡◌, ℕ, ◌+◌, ◌-◌, ◌^◌, ◌≤◌, ◌<◌, true, List, [], ◌∷◌, length, get_or, set, Some, None, Ok, Err, IsTrue, ap, refl, ◌∙◌, sym, subst, arith}
-use Rattle.std.specs.Prelude.{min, nat_le, sum_by, filter, slice_get, insert}
+use Rattle.std.specs.Prelude.{min, nat_le, sum_by, slice_get, insert}
 use Rattle.std.specs.List.{position, remove}
 use Rattle.std.proofs.lemmas.List.Sums.{sum_by-set, sum_by-remove}
 use Rattle.std.proofs.lemmas.Option.{get_or_from_slice_get, slice_get_within, slice_get-get_or}
@@ -9,12 +9,11 @@ use Rattle.std.proofs.lemmas.Slice.Eq.{bytes_eq-Decides}
 use Rattle.pk_syntax.specs.declared.declaration.TableDecl.{TableDecl}
 use Rattle.pk_schema.specs.Shapes.{Shape, IsShape, shape_of}
 use Rattle.pk_values.specs.declared.changes.Changes.{Changes}
-use Rattle.pk_values.specs.declared.placed.Placed.{Placed}
 use Rattle.pk_values.specs.declared.refusal.Refusal.{Refusal}
 use Rattle.pk_values.specs.declared.refusal.Refusal.TheVariants.{BaseLimit, TableExists}
 use Rattle.pk_values.specs.declared.refusal.BaseLimitName.TheVariants as base_limits
 use Rattle.pk_values.specs.Refusals.{first_some}
-use Rattle.pk_engine.specs.Base.{Table, is_named, table_named, with_table, without_table, change_table, row_count, changed_by}
+use Rattle.pk_engine.specs.Base.{Table, is_named, table_named, with_table, without_table, change_table, row_count, added_by, changed_by}
 use Rattle.pk_exec.specs.Refusals.{many_changes}
 use Rattle.pk_engine.specs.Create.{if_found, table_exists}
 use Rattle.pk_engine.specs.Drop.{table_large, drop_refusals, dropped}
@@ -33,17 +32,15 @@ use Rattle.pk_engine.specs.declared.engine.Engine.{Engine}
 use Rattle.pk_engine.proofs.ListLemmas.{first_place}
 use Rattle.pk_engine.proofs.OrderLemmas.{blank, place_of_table}
 use Rattle.pk_engine.proofs.TableLemmas.{change_place, without_place, with_table_place, named_at, none_named}
-use Rattle.pk_engine.proofs.EntryLemmas.{entries_committed, entries_counted, length-placed, put_counted, added_few, gone_ascend}
+use Rattle.pk_engine.proofs.RowLemmas.{rises}
+use Rattle.pk_engine.proofs.EntryLemmas.{entries_counted, length-placed, put_counted, added_few, gone_ascend}
+use Rattle.pk_engine.proofs.PutLemmas.{entries_committed}
 use Rattle.pk_engine.proofs.LimitLemmas.{rows_within, ids_within, commits_within}
 use Rattle.pk_engine.proofs.StandsLemmas.{table_at, table_absent, place_within, stands_table, stands_tables, stands_order, stands_rows, stands_valid, stands_commit, commit_stands}
 use Rattle.pk_engine.proofs.AnswerLemmas.{second_refused, both_free}
 use Rattle.pk_engine.proofs.ValidLemmas.{changed_is_valid, made_is_valid, dropped_is_valid, rows_with_table}
 use Rattle.pk_values.proofs.RefusalLemmas.{first_behind, head_free, first_alone}
 use Rattle.std.proofs.lemmas.Bool.{lt-ltb, le-ltb}
-
--- how many rows are new
-abbrev pub added_by : Table → Changes → ℕ
-added_by t c = length (filter (λ (p : Placed). nat_le t.next p.id) c.put)
 
 -- what changes make of a table's counts
 pub record IsCounted (t : Table) (c : Changes) : Type 0 where
@@ -56,9 +53,9 @@ pub counted : (t : Table) (c : Changes) → IsValidTable t → AreOf t c → IsC
 counted t c valid of =
     let es = of.0 in
     let is = of.3 in
-    let made = ap (λ (d : Changes). changed_by d t) is ∙ entries_committed t es valid.ids of.1 in
-    let n = ap (λ (d : Changes). added_by t d) is ∙ put_counted t.rows es 1 t.next of.1 valid.ids in
-    let all = entries_counted t.rows es 1 t.next of.1 valid.ids in
+    let made = ap (λ (d : Changes). changed_by d t) is ∙ entries_committed t es (rises t valid) of.1 in
+    let n = ap (λ (d : Changes). added_by t d) is ∙ put_counted t.rows es 1 t.next of.1 (rises t valid) in
+    let all = entries_counted t.rows es 1 t.next of.1 (rises t valid) in
     let rows = ap (λ (u : Table). length u.rows) made ∙ length-placed es t.next in
     let gone = ap (λ (d : Changes). length d.gone) is in
     let few = added_few es in
@@ -66,7 +63,7 @@ counted t c valid of =
       next = ap (λ (u : Table). u.next) made ∙ ap (λ (k : ℕ). t.next + k) (sym n);
       rows = omega (arith, n, all, rows, gone);
       gone = omega (arith, all, gone, few);
-      ascend = subst (λ (d : Changes). IdsAscend d.gone) (sym is) (gone_ascend t.rows es 1 t.next valid.ids);
+      ascend = subst (λ (d : Changes). IdsAscend d.gone) (sym is) (gone_ascend t.rows es 1 t.next (rises t valid));
     }
 
 -- ---- the tables after the commit

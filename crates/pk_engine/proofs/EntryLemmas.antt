@@ -1,4 +1,4 @@
-use Rattle.std.proofs.Common.{◌≡◌, ℕ, ◌+◌, ◌≤◌, ◌<◌, Bool, true, false, not, ◌==◌, ◌&&◌, ◌||◌, List, [], ◌∷◌, ◌++◌, length, map, refl, sym, ◌∙◌, ap, arith, if◌then◌else◌, suc, subst, append_assoc}
+use Rattle.std.proofs.Common.{◌≡◌, ℕ, ◌+◌, ◌≤◌, ◌<◌, Bool, true, false, not, ◌==◌, ◌&&◌, ◌||◌, List, [], ◌∷◌, ◌++◌, length, map, refl, sym, ◌∙◌, ap, arith, if◌then◌else◌, suc, subst}
 use Rattle.std.specs.Prelude.{filter, nat_lt, nat_le, cond}
 use Rattle.std.specs.Ordering.{nat_cmp}
 use Rattle.std.specs.Cmp.{nat_cmp_is}
@@ -6,35 +6,20 @@ use Rattle.std.specs.declared.cmp.Ordering.TheVariants.{Less}
 use Rattle.std.specs.List.Sorted.{IsStrictlySortedBy}
 use Rattle.std.specs.List.{list_any, AllByRecursion}
 use Rattle.std.proofs.lemmas.Map.Views.{any-filter_same}
-use Rattle.std.proofs.lemmas.List.{append-nil}
-use Rattle.std.proofs.lemmas.Bool.{eqb-true, or_right, lt-ltb}
+use Rattle.std.proofs.lemmas.Bool.{eqb-true, or_right}
 use Rattle.pk_values.specs.declared.placed.Placed.{Placed}
 use Rattle.pk_values.specs.declared.value.Value.{Value}
 use Rattle.pk_exec.specs.Rows.{ids_of}
 use Rattle.pk_exec.specs.Entries.{Entry, Kept, Touched, New, row_in, with_row as set_row, kept_entry}
-use Rattle.pk_exec.specs.Changes.{is_entry_of, gone_ids, touched_rows, added_rows, placed_from, changes_of}
-use Rattle.pk_engine.specs.Base.{Table, replaced_by, with_row, with_rows, changed_by}
+use Rattle.pk_exec.specs.Changes.{is_entry_of, gone_ids, touched_rows, added_rows, placed_from}
 use Rattle.pk_guard.specs.Changed.{IdsAscend, stays}
-use Rattle.pk_engine.specs.Rows.{IdsRise}
 use Rattle.pk_engine.specs.Entries.{AreNew, Follow, Ends, Goes, Stays, Turns, placed}
-use Rattle.pk_engine.proofs.RowLemmas.{other_id, other_above, kept_head, replaced_head, lower_rise}
+use Rattle.pk_engine.proofs.RowLemmas.{AreFrom, IdsRise, rise_from, rise_room, lower_rise, other_id, other_above}
 
 -- ---- ids
 
 pub id_of_itself : (n : ℕ) → (n == n) ≡ true
 id_of_itself n = grind arith
-
--- all ids are at least this
-abbrev pub AreFrom : ℕ → List Placed → Type 0
-AreFrom least rows = AllByRecursion (λ p. least ≤ p.id) rows
-
-from_lower : (low high : ℕ) (ps : List Placed) → low ≤ high → AreFrom high ps → AreFrom low ps
-from_lower low high [] le from = tt
-from_lower low high (p ∷ ps) le from = (omega (arith, le, from.0), from_lower low high ps le from.1)
-
-pub rise_from : (least next : ℕ) (ps : List Placed) → IdsRise least ps next → AreFrom least ps
-rise_from least next [] rise = tt
-rise_from least next (p ∷ ps) rise = (rise.0, from_lower least (p.id + 1) ps (omega (arith, rise.0)) (rise_from (p.id + 1) next ps rise.1))
 
 -- ---- the rows that go
 
@@ -141,52 +126,11 @@ with_entries _ _ least next (Turns p ps row es d) rise =
 
 -- ---- rows put
 
-abbrev tab : Table → ℕ → List Placed → Table
-tab t next rows = record t { next = next; rows = rows }
-
-rows_put_both : (xs ys : List Placed) (t : Table) → with_rows (xs ++ ys) t ≡ with_rows ys (with_rows xs t)
-unfolding with_rows
-rows_put_both [] ys t = refl
-rows_put_both (x ∷ xs) ys t = rows_put_both xs ys (with_row t x)
-
 pub not_below : (n : ℕ) → nat_lt n n ≡ false
 not_below n = grind arith
 
-abbrev by_id : Table → Placed → Bool → Table
-by_id t p known = if known then tab t t.next (map (replaced_by p) t.rows) else tab t (p.id + 1) (t.rows ++ p ∷ [])
-
-row_is_put : (t : Table) (p : Placed) → with_row t p ≡ by_id t p (nat_lt p.id t.next)
-unfolding with_row
-row_is_put t p = refl
-
-row_replaced : (t : Table) (p : Placed) → p.id < t.next → with_row t p ≡ tab t t.next (map (replaced_by p) t.rows)
-row_replaced t p lt = row_is_put t p ∙ ap (by_id t p) (lt-ltb p.id t.next lt)
-
-row_added : (t : Table) (next : ℕ) (rows : List Placed) (row : List Value) → with_row (tab t next rows) (record { id = next; row = row }) ≡ tab t (next + 1) (rows ++ record { id = next; row = row } ∷ [])
-row_added t next rows row = row_is_put (tab t next rows) (record { id = next; row = row }) ∙ ap (by_id (tab t next rows) (record { id = next; row = row })) (not_below next)
-
-sum_zero : (n : ℕ) → n ≡ n + 0
-sum_zero n = omega arith
-
 sum_one : (n m : ℕ) → n + 1 + m ≡ n + suc m
 sum_one n m = omega arith
-
--- new rows stand at the end
-new_put : (t : Table) (next : ℕ) (rows : List Placed) (new : List (List Value)) → with_rows (placed_from next new) (tab t next rows) ≡ tab t (next + length new) (rows ++ placed_from next new)
-unfolding with_rows
-new_put t next rows [] = ap (λ (rs : List Placed). tab t next rs) (sym (append-nil rows)) ∙ ap (λ (n : ℕ). tab t n (rows ++ [])) (sum_zero next)
-new_put t next rows (row ∷ new) =
-    let p : Placed = record { id = next; row = row } in
-    ap (with_rows (placed_from (next + 1) new)) (row_added t next rows row)
-    ∙ new_put t (next + 1) (rows ++ p ∷ []) new
-    ∙ ap (λ (rs : List Placed). tab t (next + 1 + length new) rs) (append_assoc rows (p ∷ []) (placed_from (next + 1) new))
-    ∙ ap (λ (n : ℕ). tab t n (rows ++ p ∷ placed_from (next + 1) new)) (sum_one next (length new))
-
--- a row is put in place of none with a higher id
-untouched : (p : Placed) (rows : List Placed) → AreFrom (p.id + 1) rows → map (replaced_by p) rows ≡ rows
-untouched p [] from = refl
-untouched p (r ∷ rs) from =
-    kept_head (r.id == p.id) p r (map (replaced_by p) rs) (other_above r.id p.id from.0) ∙ ap (λ (rest : List Placed). r ∷ rest) (untouched p rs from.1)
 
 -- rows below the next id, none below the least
 abbrev pub AreWithin : ℕ → ℕ → List Placed → Type 0
@@ -195,16 +139,6 @@ AreWithin least next rows = AllByRecursion (λ p. (least ≤ p.id) × (p.id < ne
 within_lower : (low high next : ℕ) (ps : List Placed) → low ≤ high → AreWithin high next ps → AreWithin low next ps
 within_lower low high next [] le within = tt
 within_lower low high next (p ∷ ps) le within = ((omega (arith, le, within.0.0), within.0.1), within_lower low high next ps le within.1)
-
--- what is put above the first row leaves it
-first_stays : (t : Table) (ps : List Placed) (r : Placed) (rows : List Placed) (next : ℕ) → AreWithin (r.id + 1) next ps
-    → with_rows ps (tab t next (r ∷ rows)) ≡ tab t next (r ∷ (with_rows ps (tab t next rows)).rows)
-unfolding with_rows
-first_stays t [] r rows next within = refl
-first_stays t (p ∷ ps) r rows next within =
-    ap (with_rows ps) (row_replaced (tab t next (r ∷ rows)) p within.0.1 ∙ ap (tab t next) (kept_head (r.id == p.id) p r (map (replaced_by p) rows) (other_below r.id p.id within.0.0)))
-    ∙ first_stays t ps r (map (replaced_by p) rows) next within.1
-    ∙ ap (λ (u : Table). tab t next (r ∷ (with_rows ps u).rows)) (sym (row_replaced (tab t next rows) p within.0.1))
 
 pub touched_none : (es : List Entry) → AreNew es → touched_rows es ≡ []
 touched_none [] new = refl
@@ -217,14 +151,10 @@ touched_within _ _ least next (Ends es new) rise = subst (AreWithin least next) 
 touched_within _ _ least next (Goes p ps es d) rise = within_lower least (p.id + 1) next _ (omega (arith, rise.0)) (touched_within ps es (p.id + 1) next d rise.1)
 touched_within _ _ least next (Stays p ps es d) rise = within_lower least (p.id + 1) next _ (omega (arith, rise.0)) (touched_within ps es (p.id + 1) next d rise.1)
 touched_within _ _ least next (Turns p ps row es d) rise =
-    ((rise.0, below_from (p.id) next (rise_below (p.id + 1) next ps rise.1)), within_lower least (p.id + 1) next _ (omega (arith, rise.0)) (touched_within ps es (p.id + 1) next d rise.1))
+    ((rise.0, below_from p.id next (rise_room (p.id + 1) next ps rise.1)), within_lower least (p.id + 1) next _ (omega (arith, rise.0)) (touched_within ps es (p.id + 1) next d rise.1))
   where
     below_from : (m n : ℕ) → m + 1 ≤ n → m < n
     below_from m n le = omega (arith, le)
-
-    rise_below : (least next : ℕ) (ps : List Placed) → IdsRise (least) ps next → least ≤ next
-    rise_below least next [] rise = rise
-    rise_below least next (p ∷ ps) rise = (let rest = rise_below (p.id + 1) next ps rise.1 in omega (arith, rise.0, rest))
 
 -- ---- a table after what entries change of it
 
@@ -234,26 +164,6 @@ olds_from _ _ least (Ends es new) from = tt
 olds_from _ _ least (Goes p ps es d) from = olds_from ps es least d from.1
 olds_from _ _ least (Stays p ps es d) from = (from.0, olds_from ps es least d from.1)
 olds_from _ _ least (Turns p ps row es d) from = (from.0, olds_from ps es least d from.1)
-
--- rows that are touched are put in place of those that were
-touched_put : (t : Table) (rows : List Placed) (es : List Entry) (least next : ℕ) → (d : Follow rows es) → IdsRise least rows next
-    → with_rows (touched_rows es) (tab t next (olds rows es d)) ≡ tab t next (nows rows es d)
-unfolding olds nows with_rows
-touched_put t _ _ least next (Ends es new) rise = ap (λ (ts : List Placed). with_rows ts (tab t next [])) (touched_none es new)
-touched_put t _ _ least next (Goes p ps es d) rise = touched_put t ps es (p.id + 1) next d rise.1
-touched_put t _ _ least next (Stays p ps es d) rise =
-    first_stays t (touched_rows es) p (olds ps es d) next (touched_within ps es (p.id + 1) next d rise.1)
-    ∙ ap (λ (u : Table). tab t next (p ∷ u.rows)) (touched_put t ps es (p.id + 1) next d rise.1)
-touched_put t _ _ least next (Turns p ps row es d) rise =
-    let q : Placed = record { id = p.id; row = row } in
-    let within = touched_within (p ∷ ps) (Touched p.id row ∷ es) least next (Turns p ps row es d) rise in
-    let from = olds_from ps es (p.id + 1) d (rise_from (p.id + 1) next ps rise.1) in
-    ap (with_rows (touched_rows es)) (
-    row_replaced (tab t next (p ∷ olds ps es d)) q within.0.1
-    ∙ ap (tab t next) (replaced_head (p.id == p.id) q p (map (replaced_by q) (olds ps es d)) (id_of_itself p.id))
-    ∙ ap (λ (rs : List Placed). tab t next (q ∷ rs)) (untouched q (olds ps es d) from))
-    ∙ first_stays t (touched_rows es) q (olds ps es d) next (touched_within ps es (p.id + 1) next d rise.1)
-    ∙ ap (λ (u : Table). tab t next (q ∷ u.rows)) (touched_put t ps es (p.id + 1) next d rise.1)
 
 new_placed : (next : ℕ) (es : List Entry) → AreNew es → placed next es ≡ placed_from next (added_rows es)
 new_placed next [] new = refl
@@ -267,18 +177,6 @@ all_placed _ _ next (Ends es new) = new_placed next es new
 all_placed _ _ next (Goes p ps es d) = all_placed ps es next d
 all_placed _ _ next (Stays p ps es d) = ap (λ (rs : List Placed). p ∷ rs) (all_placed ps es next d)
 all_placed _ _ next (Turns p ps row es d) = ap (λ (rs : List Placed). record { id = p.id; row = row } ∷ rs) (all_placed ps es next d)
-
--- what is changed of a table leaves the rows of the entries
-pub entries_committed : (t : Table) (es : List Entry) → IdsRise 1 t.rows t.next → Follow t.rows es
-    → changed_by (changes_of t.rows t.next es) t ≡ record t { next = t.next + length (added_rows es); rows = placed t.next es }
-unfolding changed_by
-entries_committed t es rise d =
-    let put = touched_rows es ++ placed_from t.next (added_rows es) in
-    ap (λ (rs : List Placed). with_rows put (tab t t.next rs)) (kept_by_entries es t.rows t.rows (found_whole t.rows) ∙ with_entries t.rows es 1 t.next d rise)
-    ∙ rows_put_both (touched_rows es) (placed_from t.next (added_rows es)) (tab t t.next (olds t.rows es d))
-    ∙ ap (with_rows (placed_from t.next (added_rows es))) (touched_put t t.rows es 1 t.next d rise)
-    ∙ new_put t t.next (nows t.rows es d) (added_rows es)
-    ∙ ap (tab t (t.next + length (added_rows es))) (sym (all_placed t.rows es t.next d))
 
 -- ---- what statements make of the entries
 

@@ -29,8 +29,7 @@ use Rattle.pk_engine.proofs.AnswerLemmas.{decided_refused, decided_done, decided
 use Rattle.pk_engine.proofs.KeptLemmas.{found_valid}
 use Rattle.pk_engine.proofs.KeyLemmas.{unbroken_hold, held_unbroken}
 use Rattle.pk_engine.proofs.MadeLemmas.{unchanged_by}
-use Rattle.pk_engine.proofs.RowLemmas.{changed_is_same}
-use Rattle.pk_engine.proofs.PutLemmas.{rise_sorted}
+use Rattle.pk_engine.proofs.RowLemmas.{changed_is_same, rise_sorted}
 use Rattle.pk_engine.proofs.ValidLemmas.{changed_admitted, changed_rise}
 use Rattle.pk_values.proofs.RefusalLemmas.{front_free}
 

@@ -1,5 +1,5 @@
 -- Keys of a table before and after changes.
-use Rattle.std.proofs.Common.{◌≡◌, ℕ, ◌+◌, List, [], ◌∷◌, get_or, Option, Some, None, refl, sym, ◌∙◌, ap}
+use Rattle.std.proofs.Common.{◌≡◌, ℕ, ◌+◌, List, [], ◌∷◌, get_or, Option, Some, None, refl, ap}
 use Rattle.std.specs.Option.{option_map}
 use Rattle.std.specs.List.{All}
 use Rattle.pk_values.specs.declared.broken.Break.{Break}
@@ -22,11 +22,7 @@ use Rattle.pk_guard.specs.Changed.{changed_rows}
 use Rattle.pk_guard.specs.Holds.{KeysHold}
 use Rattle.pk_guard.specs.Laws.{KeysHoldWhereNothingBreaks}
 use Rattle.pk_engine.specs.Base.{Table, changed_by}
-use Rattle.pk_engine.specs.Entries.{AreOf}
 use Rattle.pk_engine.specs.Keys.{key_broken}
-use Rattle.pk_engine.specs.Valid.{IsValidTable}
-use Rattle.pk_engine.proofs.PutLemmas.{rows_changed}
-use Rattle.pk_engine.proofs.RowLemmas.{changed_is_same}
 
 none_broken_in_none : (kinds : List Kind) (place : ℕ) (ks : List KeyDecl) → first_broken kinds place ks [] ≡ None
 unfolding first_broken first_pair
@@ -64,8 +60,6 @@ unfolding key_broken
 held_unbroken keys t shape rows held = ap (option_map (BrokenKey t.name)) ((keys t.shape t.rows shape rows).0 held)
 
 -- the break of the rows with changes is that of the table with them
-pub broken_by : (t : Table) (c : Changes) (o : Option Break) → IsValidTable t → AreOf t c → o ≡ first_break t.shape (changed_rows c t.rows) → option_map (BrokenKey t.name) o ≡ key_broken (changed_by c t)
-unfolding key_broken
-broken_by t c o valid of is =
-    ap (option_map (BrokenKey t.name)) (is ∙ ap (first_break t.shape) (rows_changed t c valid of) ∙ ap (λ (s : Shape). first_break s (changed_by c t).rows) (sym (changed_is_same c t).1))
-    ∙ ap (λ (name : List ℕ). option_map (BrokenKey name) (first_break (changed_by c t).shape (changed_by c t).rows)) (sym (changed_is_same c t).0)
+pub broken_by : (t : Table) (c : Changes) (o : Option Break) → o ≡ first_break t.shape (changed_rows c t.rows) → option_map (BrokenKey t.name) o ≡ key_broken (changed_by c t)
+unfolding key_broken changed_by
+broken_by t c o is = ap (option_map (BrokenKey t.name)) is

@@ -25,8 +25,8 @@ use Rattle.pk_exec.specs.Entries.{Entry, New, row_in, with_row, kept_entry}
 use Rattle.pk_exec.specs.Edits.{takes, taken, updated_entry}
 use Rattle.pk_exec.specs.Changes.{added_rows, placed_from}
 use Rattle.pk_exec.specs.Rows.{ids_of}
-use Rattle.pk_guard.specs.Changed.{stays}
-use Rattle.pk_engine.specs.Base.{Table, is_named, table_named, change_table, changed_by, with_rows, without_rows}
+use Rattle.pk_guard.specs.Changed.{put_rows, stays}
+use Rattle.pk_engine.specs.Base.{Table, is_named, table_named, change_table, changed_by}
 use Rattle.pk_engine.specs.State.{State, Changed, current, with_commit}
 use Rattle.pk_engine.specs.Refusing.{Step, table_of}
 use Rattle.pk_engine.specs.Edits.{entries_in, changes_in, is_unchanged, with_changes, edited, insert_refusals, inserted, insert_entries, update_refusals, updated_rows, update_entries, delete_refusals, deleted_rows, delete_entries}
@@ -34,10 +34,11 @@ use Rattle.pk_engine.specs.Entries.{Follow, placed}
 use Rattle.pk_engine.specs.Valid.{IsValid}
 use Rattle.pk_engine.specs.Answer.{answer}
 use Rattle.pk_engine.specs.Laws.{EntriesAreCommitted, HasAdded, InsertsAddRows, set_placed, HasSet, UpdatesSetRows, OtherColumnsStay, SetColumnsAreSet, HasTaken, DeletesLeaveTheRest}
-use Rattle.pk_engine.proofs.EntryLemmas.{entries_committed, follow_kept, follow_added, follow_reset, follow_chosen}
+use Rattle.pk_engine.proofs.EntryLemmas.{follow_kept, follow_added, follow_reset, follow_chosen}
 use Rattle.pk_engine.proofs.KeptLemmas.{found_valid, found_name, found_named}
 use Rattle.pk_engine.proofs.OtherLemmas.{about_says, tables_more, named}
-use Rattle.pk_engine.proofs.RowLemmas.{changed_is_same}
+use Rattle.pk_engine.proofs.PutLemmas.{entries_committed}
+use Rattle.pk_engine.proofs.RowLemmas.{changed_is_same, rises}
 
 -- ---- entries committed
 
@@ -61,11 +62,16 @@ none_gone (p ∷ ps) = ap (λ rest. p ∷ rest) (none_gone ps)
 
 -- a table without changes is as it was
 pub unchanged_by : (c : Changes) (t : Table) → is_unchanged c ≡ true → changed_by c t ≡ t
-unfolding changed_by with_rows
+unfolding changed_by put_rows
 unchanged_by c t same = go c.gone c.put same
   where
-    go : (gone : List ℕ) (put : List Placed) → is_unchanged (record { gone = gone; put = put }) ≡ true → with_rows put (without_rows gone t) ≡ t
-    go [] [] same = ap (λ (rows : List Placed). record t { rows = rows }) (none_gone t.rows)
+    no_more : (n : ℕ) → n + 0 ≡ n
+    no_more n = omega arith
+
+    go : (gone : List ℕ) (put : List Placed) → is_unchanged (record { gone = gone; put = put }) ≡ true → changed_by (record { gone = gone; put = put }) t ≡ t
+    go [] [] same =
+        ap (λ (n : ℕ). record t { next = n; rows = filter (stays []) t.rows }) (no_more t.next)
+        ∙ ap (λ (rows : List Placed). record t { rows = rows }) (none_gone t.rows)
     go [] (p ∷ ps) same = absurd cc
     go (k ∷ ks) put same = absurd cc
 
@@ -82,7 +88,7 @@ entries_stand st name t es valid found follow =
     let good = found_valid st name t valid found in
     subst (λ n. table_of (with_changes st t (changes_in t es)) n ≡ Some (record t { next = t.next + length (added_rows es); rows = placed t.next es }))
     (found_name st name t found)
-    (there ∙ ap (λ (u : Table). Some u) (entries_committed t es good.ids follow))
+    (there ∙ ap (λ (u : Table). Some u) (entries_committed t es (rises t good) follow))
 
 -- ---- what a statement makes, by its reply
 

@@ -1,8 +1,6 @@
 -- The rows of a table with the changes that entries make of it, on which its keys are judged.
-use Rattle.std.proofs.Common.{◌≡◌, ℕ, ◌+◌, ◌≤◌, ◌<◌, List, [], ◌∷◌, ◌++◌, refl, sym, ◌∙◌, ap, arith, subst, append_assoc}
+use Rattle.std.proofs.Common.{◌≡◌, ℕ, ◌+◌, ◌≤◌, ◌<◌, List, [], ◌∷◌, ◌++◌, length, refl, sym, ◌∙◌, ap, arith, subst, append_assoc}
 use Rattle.std.specs.Ordering.{nat_cmp}
-use Rattle.std.specs.Cmp.{nat_cmp_is}
-use Rattle.std.specs.declared.cmp.Ordering.TheVariants.{Less}
 use Rattle.std.specs.List.Sorted.{IsStrictlySortedBy}
 use Rattle.std.specs.List.{All, AllByRecursion}
 use Rattle.std.proofs.lemmas.List.Elements.{All-from_recursion, recursion_from_All}
@@ -16,10 +14,10 @@ use Rattle.pk_exec.specs.Entries.{Entry, Kept, Touched, New, row_in}
 use Rattle.pk_exec.specs.Changes.{touched_rows, added_rows, placed_from, changes_of}
 use Rattle.pk_guard.specs.Changed.{put_row, put_rows, changed_rows}
 use Rattle.pk_engine.specs.Base.{Table, changed_by}
-use Rattle.pk_engine.specs.Rows.{IdsRise}
 use Rattle.pk_engine.specs.Entries.{Follow, Ends, Goes, Stays, Turns, placed, AreOf}
 use Rattle.pk_engine.specs.Valid.{IsValidTable}
-use Rattle.pk_engine.proofs.EntryLemmas.{AreFrom, AreWithin, rise_from, id_of_itself, kept_by_entries, found_whole, with_entries, olds, nows, touched_none, touched_within, all_placed, entries_committed, not_below}
+use Rattle.pk_engine.proofs.RowLemmas.{AreFrom, IdsRise, rises, rise_room, all_above}
+use Rattle.pk_engine.proofs.EntryLemmas.{AreWithin, id_of_itself, kept_by_entries, found_whole, with_entries, olds, nows, touched_none, touched_within, all_placed, not_below, put_counted}
 use Rattle.std.proofs.lemmas.Bool.{lt-ltb}
 
 -- ---- one row put
@@ -89,10 +87,6 @@ new_stand next rows (row ∷ new) all =
     ∙ new_stand (next + 1) (rows ++ p ∷ []) new (one_more next rows row all)
     ∙ append_assoc rows (p ∷ []) (placed_from (next + 1) new)
 
-rise_room : (least next : ℕ) (ps : List Placed) → IdsRise least ps next → least ≤ next
-rise_room least next [] rise = rise
-rise_room least next (p ∷ ps) rise = (let rest = rise_room (p.id + 1) next ps rise.1 in omega (arith, rise.0, rest))
-
 nows_low : (rows : List Placed) (es : List Entry) (least next : ℕ) → (d : Follow rows es) → IdsRise least rows next → AllByRecursion (λ q. q.id < next) (nows rows es d)
 unfolding nows
 nows_low _ _ least next (Ends es new) rise = tt
@@ -110,26 +104,15 @@ rows_of_entries rows es next rise d =
     ∙ new_stand next (nows rows es d) (added_rows es) (nows_low rows es 1 next d rise)
     ∙ sym (all_placed rows es next d)
 
--- they are those of the table with the changes
-pub rows_changed : (t : Table) (c : Changes) → IsValidTable t → AreOf t c → changed_rows c t.rows ≡ (changed_by c t).rows
-rows_changed t c valid of =
-    ap (λ (d : Changes). changed_rows d t.rows) of.3
-    ∙ rows_of_entries t.rows of.0 t.next valid.ids of.1
-    ∙ sym (ap (λ (u : Table). u.rows) (ap (λ (d : Changes). changed_by d t) of.3 ∙ entries_committed t of.0 valid.ids of.1))
+-- what is changed of a table leaves the rows of the entries
+pub entries_committed : (t : Table) (es : List Entry) → IdsRise 1 t.rows t.next → Follow t.rows es
+    → changed_by (changes_of t.rows t.next es) t ≡ record t { next = t.next + length (added_rows es); rows = placed t.next es }
+unfolding changed_by
+entries_committed t es rise d =
+    ap (λ (n : ℕ). record t { next = t.next + n; rows = changed_rows (changes_of t.rows t.next es) t.rows }) (put_counted t.rows es 1 t.next d rise)
+    ∙ ap (λ (rows : List Placed). record t { next = t.next + length (added_rows es); rows = rows }) (rows_of_entries t.rows es t.next rise d)
 
 -- ---- their order
-
-above : (low id : ℕ) → low + 1 ≤ id → nat_cmp low id ≡ Less
-above low id le = sym (nat_cmp_is low id Less (omega (arith, le)))
-
-all_above : (low : ℕ) (ps : List Placed) → AreFrom (low + 1) ps → AllByRecursion (λ id. nat_cmp low id ≡ Less) (ids_of ps)
-all_above low [] from = tt
-all_above low (p ∷ ps) from = (above low p.id from.0, all_above low ps from.1)
-
-pub rise_sorted : (least next : ℕ) (ps : List Placed) → IdsRise least ps next → IsStrictlySortedBy nat_cmp (ids_of ps)
-unfolding IsStrictlySortedBy
-rise_sorted least next [] rise = tt
-rise_sorted least next (p ∷ ps) rise = (all_above p.id ps (rise_from (p.id + 1) next ps rise.1), rise_sorted (p.id + 1) next ps rise.1)
 
 placed_high : (low from : ℕ) (new : List (List Value)) → low ≤ from → AreFrom low (placed_from from new)
 placed_high low from [] le = tt
@@ -159,7 +142,7 @@ put_sorted _ _ least next (Turns p ps row es d) rise =
     )
 
 pub put_ascend : (t : Table) (c : Changes) → IsValidTable t → AreOf t c → IsStrictlySortedBy nat_cmp (ids_of c.put)
-put_ascend t c valid of = subst (λ (d : Changes). IsStrictlySortedBy nat_cmp (ids_of d.put)) (sym of.3) (put_sorted t.rows of.0 1 t.next of.1 valid.ids)
+put_ascend t c valid of = subst (λ (d : Changes). IsStrictlySortedBy nat_cmp (ids_of d.put)) (sym of.3) (put_sorted t.rows of.0 1 t.next of.1 (rises t valid))
 
 -- ---- the schema admits them
 

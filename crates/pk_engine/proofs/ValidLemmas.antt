@@ -18,13 +18,14 @@ use Rattle.pk_engine.specs.Base.{Base, Table, empty_base, is_named, comes_before
 use Rattle.pk_engine.specs.Entries.{placed, MayBeKept, AreOf}
 use Rattle.pk_engine.specs.State.{Made, Dropped, Changed, made_table, committed}
 use Rattle.pk_engine.specs.Keys.{key_broken}
-use Rattle.pk_engine.specs.Rows.{IdsRise}
 use Rattle.pk_engine.specs.Limits.{most_tables, most_rows, most_ids}
 use Rattle.pk_engine.specs.Valid.{is_table_name, IsValidTable, IsValid}
 use Rattle.pk_engine.proofs.OrderLemmas.{order_with, order_changed, order_without}
 use Rattle.pk_engine.proofs.TableLemmas.{with_table_place}
 use Rattle.pk_engine.proofs.KeyLemmas.{no_rows_hold, unbroken_hold}
-use Rattle.pk_engine.proofs.EntryLemmas.{entries_committed, entries_rise, entries_hold}
+use Rattle.pk_engine.proofs.RowLemmas.{IdsRise, rises, rise_ascends, rise_below, rise_room}
+use Rattle.pk_engine.proofs.EntryLemmas.{entries_rise, entries_hold}
+use Rattle.pk_engine.proofs.PutLemmas.{entries_committed}
 
 -- ---- a table made
 
@@ -33,10 +34,13 @@ unfolding IsStrictlySortedBy
 empty_base_valid = record { names = tt; tables = All-nil IsValidTable; few_tables = omega arith; few_rows = omega arith; few_commits = omega arith }
 
 made_valid : (name : List ℕ) (s : Shape) → IsTrue (is_table_name name) → IsShape s → IsValidTable (made_table name s)
+unfolding IsStrictlySortedBy
 made_valid name s named shape = record {
   named = named;
   shape = shape;
-  ids = omega arith;
+  ids = (tt, tt);
+  below = All-nil (λ (p : Placed). p.id < 1);
+  first = omega arith;
   rows = All-nil (λ (p : Placed). Admits s p.row);
   values = All-nil (λ (p : Placed). All IsStorable p.row);
   next = omega arith;
@@ -123,7 +127,7 @@ abbrev made_by : Table → List Entry → Table
 made_by t es = record t { next = t.next + length (added_rows es); rows = placed t.next es }
 
 made_is : (t : Table) (c : Changes) → IsValidTable t → (of : AreOf t c) → changed_by c t ≡ made_by t of.0
-made_is t c valid of = ap (λ (d : Changes). changed_by d t) of.3 ∙ entries_committed t of.0 valid.ids of.1
+made_is t c valid of = ap (λ (d : Changes). changed_by d t) of.3 ∙ entries_committed t of.0 (rises t valid) of.1
 
 -- the rows of the entries have what each row of a table that may be kept has
 made_have : (P : List Value → Type 0) (t : Table) (es : List Entry) → ((row : List Value) → MayBeKept t.shape row → P row)
@@ -140,7 +144,7 @@ made_admitted t es all = made_have (Admits t.shape) t es (λ row kept. kept.0) a
 
 -- ids rise after such changes
 pub changed_rise : (t : Table) (c : Changes) → IsValidTable t → AreOf t c → IdsRise 1 (changed_by c t).rows (changed_by c t).next
-changed_rise t c valid of = subst (λ (u : Table). IdsRise 1 u.rows u.next) (sym (made_is t c valid of)) (entries_rise t.rows of.0 1 t.next of.1 valid.ids)
+changed_rise t c valid of = subst (λ (u : Table). IdsRise 1 u.rows u.next) (sym (made_is t c valid of)) (entries_rise t.rows of.0 1 t.next of.1 (rises t valid))
 
 -- the schema of a table after such changes, and that it admits the rows
 pub changed_admitted : (t : Table) (c : Changes) → IsValidTable t → AreOf t c → IsShape (changed_by c t).shape × All (λ (p : Placed). Admits (changed_by c t).shape p.row) (changed_by c t).rows
@@ -152,10 +156,13 @@ pub changed_table_valid : KeysHoldWhereNothingBreaks → (t : Table) (c : Change
 changed_table_valid unbroken t c valid of room free =
     let es = of.0 in
     let is = made_is t c valid of in
+    let rise = entries_rise t.rows es 1 t.next of.1 (rises t valid) in
     subst IsValidTable (sym is) record {
       named = valid.named;
       shape = valid.shape;
-      ids = entries_rise t.rows es 1 t.next of.1 valid.ids;
+      ids = rise_ascends 1 _ (placed t.next es) rise;
+      below = rise_below 1 _ (placed t.next es) rise;
+      first = rise_room 1 _ (placed t.next es) rise;
       rows = made_admitted t es of.2;
       values = made_have (All IsStorable) t es (λ row kept. kept.1) of.2;
       next = subst (λ (u : Table). u.next ≤ most_ids) is room;

@@ -29,11 +29,10 @@ use Rattle.pk_engine.specs.Edits.{entries_in, changes_in, update_entries, delete
 use Rattle.pk_engine.specs.Select.{found}
 use Rattle.pk_engine.specs.Outcome.{IsDone}
 use Rattle.pk_engine.specs.Valid.{IsValidTable}
-use Rattle.pk_engine.proofs.RowLemmas.{rise_ascends}
 use Rattle.pk_engine.proofs.StandsLemmas.{if_ok}
 
 pub valid_ascends : (t : Table) → IsValidTable t → AscendFrom 1 t.rows
-valid_ascends t valid = rise_ascends 1 t.next t.rows valid.ids
+valid_ascends t valid = valid.ids
 
 -- ---- a work without edits
 

@@ -1,4 +1,4 @@
-use Rattle.std.specs.Prelude.{ℕ, ◌+◌, Bool, ◌==◌, List, [], ◌∷◌, ◌++◌, length, map, filter, sum_by, Option, find, nat_lt, if◌then◌else◌}
+use Rattle.std.specs.Prelude.{ℕ, ◌+◌, Bool, List, [], ◌∷◌, length, map, filter, sum_by, Option, find, nat_le, if◌then◌else◌}
 use Rattle.std.specs.Str.{bytes_eq}
 use Rattle.std.specs.Ordering.{nat_cmp, is_lt}
 use Rattle.std.specs.Cmp.Lexicographic.{slice_cmp}
@@ -6,7 +6,7 @@ use Rattle.std.specs.List.Sorted.{IsStrictlySortedBy}
 use Rattle.pk_values.specs.declared.placed.Placed.{Placed}
 use Rattle.pk_values.specs.declared.changes.Changes.{Changes}
 use Rattle.pk_schema.specs.Shapes.{Shape}
-use Rattle.pk_guard.specs.Changed.{stays}
+use Rattle.pk_guard.specs.Changed.{changed_rows}
 
 -- a table: its rows stand in ascending order of their ids, and each id is below the next one
 pub record Table : Type 0 where
@@ -52,26 +52,13 @@ without_table name (t ∷ ts) = if is_named name t then ts else t ∷ without_ta
 
 -- ---- rows changed
 
--- the row in place of the one with its id
-abbrev pub replaced_by : Placed → Placed → Placed
-replaced_by new p = if p.id == new.id then new else p
-
--- the table with a row put: in place of the row with its id where that is below the next one, and else at the end
-unfoldable pub with_row : Table → Placed → Table
-with_row t p = if nat_lt p.id t.next then record t { rows = map (replaced_by p) t.rows } else record t { next = p.id + 1; rows = t.rows ++ p ∷ [] }
-
--- the table with rows put, one behind the other
-unfoldable pub with_rows : List Placed → Table → Table
-with_rows [] t = t
-with_rows (p ∷ ps) t = with_rows ps (with_row t p)
-
--- the table without the rows of these ids
-abbrev pub without_rows : List ℕ → Table → Table
-without_rows ids t = record t { rows = filter (stays ids) t.rows }
+-- how many of the rows that are put are new: those from the next id on
+abbrev pub added_by : Table → Changes → ℕ
+added_by t c = length (filter (λ (p : Placed). nat_le t.next p.id) c.put)
 
 -- the table after these changes
 unfoldable pub changed_by : Changes → Table → Table
-changed_by c t = with_rows c.put (without_rows c.gone t)
+changed_by c t = record t { next = t.next + added_by t c; rows = changed_rows c t.rows }
 
 -- the tables with the one of this name changed
 unfoldable pub change_table : List ℕ → Changes → List Table → List Table

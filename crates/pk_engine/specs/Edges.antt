@@ -23,7 +23,7 @@ use Rattle.pk_engine.specs.Answer.{answer}
 use Rattle.pk_engine.specs.Base.{Table, empty_base, comes_before, with_table, without_table, changed_by}
 use Rattle.pk_engine.specs.Create.{create_refusals}
 use Rattle.pk_engine.specs.Edits.{changes_in, change_refusals, commit_refusals, is_unchanged}
-use Rattle.pk_engine.specs.Limits.{most_ids, rows_full}
+use Rattle.pk_engine.specs.Limits.{most_ids, rows_full, limit_refusals}
 use Rattle.pk_engine.specs.State.{State, Changed, started}
 
 -- a INTEGER, with POSSIBLE KEY (a)
@@ -71,8 +71,8 @@ pub record ChangesAtTheirEdges : Type 0 where
   pub all_gone : Becomes (4 ∷ 2 ∷ 3 ∷ []) [] 5 []
   pub in_its_place : Becomes [] (placed 2 one ∷ []) 5 (placed 2 one ∷ placed 4 Null ∷ [])
   pub at_the_end : Becomes [] (placed 5 one ∷ placed 6 Null ∷ []) 7 (placed 2 Null ∷ placed 4 Null ∷ placed 5 one ∷ placed 6 Null ∷ [])
-  pub gone_before_put : Becomes (2 ∷ []) (placed 2 one ∷ []) 5 (placed 4 Null ∷ [])
-  pub gone_ids_stay_free : Becomes [] (placed 3 one ∷ []) 5 (placed 2 Null ∷ placed 4 Null ∷ [])
+  pub gone_before_put : Becomes (2 ∷ []) (placed 2 one ∷ []) 5 (placed 2 one ∷ placed 4 Null ∷ [])
+  pub between_others : Becomes [] (placed 3 one ∷ []) 5 (placed 2 Null ∷ placed 3 one ∷ placed 4 Null ∷ [])
   pub no_entry : Change [] (2 ∷ 4 ∷ []) []
   pub all_kept : Change (Kept 2 (Null ∷ []) ∷ Kept 4 (Null ∷ []) ∷ []) [] []
   pub touched_as_it_was : Change (Kept 2 (Null ∷ []) ∷ Touched 4 (Null ∷ []) ∷ []) [] (placed 4 Null ∷ [])
@@ -102,6 +102,12 @@ rows_with tables = rows_full (state 0 (table (codes "t") ∷ tables)) (Changed (
 abbrev pub filled : ℕ → Table
 filled n = record (table (codes "u")) { rows = replicate n (placed 1 Null) }
 
+-- what the first row of the table t is refused for by the limits, where it gets this id and the base has these tables beside
+abbrev pub limited : List Table → ℕ → Option Refusal
+limited tables id =
+    let t : Table = record (table (codes "t")) { next = id } in
+    first_some (limit_refusals (state 0 (t ∷ tables)) t (record { gone = []; put = placed id Null ∷ [] }))
+
 pub record LimitsAtTheirEdges : Type 0 where
   pub the_last_row : rows_with (filled 999 ∷ replicate 199 (filled 1000)) ≡ None
   pub one_row_more : rows_with (replicate 200 (filled 1000)) ≡ Some (BaseLimit base_limits.Rows)
@@ -112,6 +118,8 @@ pub record LimitsAtTheirEdges : Type 0 where
   pub the_last_commit : creating (most_ids - 1) [] ≡ None
   pub one_commit_more : creating most_ids [] ≡ Some (BaseLimit base_limits.Commits)
   pub the_last_id : adding 0 (most_ids - 1) Null ≡ None
+  pub rows_before_ids : limited (replicate 200 (filled 1000)) most_ids ≡ Some (BaseLimit base_limits.Rows)
+  pub ids_behind_rows : limited (filled 999 ∷ replicate 199 (filled 1000)) most_ids ≡ Some (BaseLimit base_limits.RowIds)
   pub ids_before_commits : adding most_ids most_ids one ≡ Some (BaseLimit base_limits.RowIds)
   pub commits_before_keys : adding most_ids 2 one ≡ Some (BaseLimit base_limits.Commits)
   pub a_key_at_last : adding 0 2 one ≡ Some (BrokenKey (codes "t") (record { key = 1; sort = Possible; low = 1; high = 2; values = one ∷ [] }))

@@ -2,7 +2,6 @@
 -- base as it is.
 use Rattle.std.specs.Prelude.{◌≡◌, ◌≢◌, ℕ, ◌+◌, ◌<◌, Bool, false, not, List, [], ◌∷◌, ◌++◌, length, map, filter, All, Option, Some, None, if◌then◌else◌}
 use Rattle.std.specs.List.Sorted.{IsPermutation, IsSorted, IsStable}
-use Rattle.pk_values.specs.declared.changes.Changes.{Changes}
 use Rattle.pk_values.specs.declared.placed.Placed.{Placed}
 use Rattle.pk_values.specs.declared.refusal.Refusal.{Refusal}
 use Rattle.pk_values.specs.declared.value.Value.{Value}
@@ -36,8 +35,7 @@ use Rattle.pk_exec.specs.Entries.{Entry}
 use Rattle.pk_exec.specs.Refusals.{work_insert_refusals, work_update_refusals}
 use Rattle.pk_exec.specs.Rows.{ids_of}
 use Rattle.pk_exec.specs.Selecting.{row_cmp, sorted_by}
-use Rattle.pk_guard.specs.Changed.{changed_rows}
-use Rattle.pk_engine.specs.Base.{Table, changed_by}
+use Rattle.pk_engine.specs.Base.{Table}
 use Rattle.pk_engine.specs.State.{State, current}
 use Rattle.pk_engine.specs.Refusing.{table_of}
 use Rattle.pk_engine.specs.Edits.{changes_in, with_changes, entries_in, insert_entries, update_entries, delete_entries}
@@ -139,10 +137,6 @@ pub record EditsAreOfEntries (t : Table) : Type 0 where
 
 abbrev pub StatementsMakeEntries : Type 0
 StatementsMakeEntries = (t : Table) → IsValidTable t → EditsAreOfEntries t
-
--- such changes make of the rows what a guard judges the keys of
-abbrev pub ChangedRowsAreJudged : Type 0
-ChangedRowsAreJudged = (t : Table) (c : Changes) → IsValidTable t → AreOf t c → changed_rows c t.rows ≡ (changed_by c t).rows
 
 -- the changes of any entries over the rows of a table leave exactly the rows of the entries
 abbrev pub EntriesAreCommitted : Type 0

@@ -1,5 +1,4 @@
 pub mod Base
-pub mod Rows
 pub mod State
 pub mod Place
 pub mod Refusing

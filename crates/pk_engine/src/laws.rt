@@ -6,7 +6,7 @@ ghost use Rattle.pk_engine.specs.Valid.{IsValid, AnswersKeepValid};
 ghost use Rattle.pk_engine.specs.KeyLaws.{KeysAreJudgedByCompletions};
 ghost use Rattle.pk_engine.specs.ReasonLaws.{ImpliesTellsTheTruth, CoverIsTold};
 ghost use Rattle.pk_engine.specs.Edges.{TablesAtTheirEdges, ChangesAtTheirEdges, LimitsAtTheirEdges, RestAtItsEdges};
-ghost use Rattle.pk_engine.specs.Laws.{SelectsChangeNothing, RefusalsChangeNothing, OtherTablesStay, CreatedTablesAreThere, DroppedTablesAreGone, InsertsAddRows, UpdatesSetRows, OtherColumnsStay, SetColumnsAreSet, DeletesLeaveTheRest, StatementsMakeEntries, ChangedRowsAreJudged, EntriesAreCommitted, SelectsTellTheirRows, WholeRowsAreTold, RowsArePutInOrder, CountsAreOfTheRowsShown};
+ghost use Rattle.pk_engine.specs.Laws.{SelectsChangeNothing, RefusalsChangeNothing, OtherTablesStay, CreatedTablesAreThere, DroppedTablesAreGone, InsertsAddRows, UpdatesSetRows, OtherColumnsStay, SetColumnsAreSet, DeletesLeaveTheRest, StatementsMakeEntries, EntriesAreCommitted, SelectsTellTheirRows, WholeRowsAreTold, RowsArePutInOrder, CountsAreOfTheRowsShown};
 
 use pk_bind::{
     named_columns_are_found, new_rows_are_admitted, set_rows_are_admitted, what_is_bound_fits,
@@ -82,11 +82,6 @@ pub fn statements_make_entries()
     set_rows_are_admitted();
     admitted_rows_fit();
 }
-
-/// Such changes make of the rows of a table, one by one, what a guard judges its keys on.
-pub fn changed_rows_are_judged()
-    ensures { ChangedRowsAreJudged }
-{}
 
 /// The law behind the three: the changes of any entries over the rows of a table leave exactly the
 /// rows of the entries.

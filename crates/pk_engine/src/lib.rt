@@ -13,8 +13,8 @@ mod table;
 pub use answered::is_answered;
 pub use engine::Engine;
 pub use laws::{
-    answers_keep_bases_valid, changed_rows_are_judged, definitions_at_their_edges,
-    deletes_leave_the_rest, entries_are_committed, implies_tells_the_truth, inserts_add_rows,
+    answers_keep_bases_valid, definitions_at_their_edges, deletes_leave_the_rest,
+    entries_are_committed, implies_tells_the_truth, inserts_add_rows,
     keys_are_judged_by_completions, refusals_change_nothing, rows_are_put_in_order,
     selects_change_nothing, selects_tell_their_rows, set_rows_keep_other_columns,
     statements_leave_other_tables, statements_make_entries, tables_are_made_and_dropped,

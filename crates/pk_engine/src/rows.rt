@@ -1,13 +1,10 @@
 //! Rows in the order of their ids, and what changes do to them.
 
-ghost use Rattle.std.specs.Prelude.{◌≡◌, ◌==◌, List, ℕ, map, filter};
+ghost use Rattle.std.specs.Prelude.{◌≡◌, ◌==◌, ℕ, filter, OnOk};
 ghost use Rattle.std.specs.List.{list_any};
-ghost use Rattle.pk_values.specs.declared.placed.Placed.{Placed};
-ghost use Rattle.pk_exec.specs.Rows.{AscendFrom};
-ghost use Rattle.pk_engine.specs.Base.{replaced_by};
-ghost use Rattle.pk_guard.specs.Changed.{IdsAscend, stays};
+ghost use Rattle.pk_guard.specs.Changed.{IdsAscend, RowsAscend, put_row, put_rows, stays};
 
-use pk_values::Placed;
+use pk_values::{Items, Memory, Placed};
 
 /// Takes out the rows of these ids, in one walk where there are any.
 pub(crate) fn take_out(rows: &mut Vec<Placed>, ids: &[u64])
@@ -31,13 +28,32 @@ fn is_among(ids: &[u64], id: u64) -> bool
     ids.binary_search(&id).is_ok()
 }
 
-/// Puts the row in place of the one with its id, if there is one.
-pub(crate) fn replace(rows: &mut Vec<Placed>, placed: Placed)
-    requires { AscendFrom 1 rows.old.items }
-    ensures { rows.new.items ≡ map (replaced_by placed) rows.old.items }
+/// Puts the rows, one behind the other; each costs a search.
+#[tactic(auto, using(crate::proofs::RowLemmas::put_ascends, crate::proofs::RowLemmas::put_each_is))]
+pub(crate) fn put_all(rows: &mut Vec<Placed>, put: Items<Placed>) -> Result<(), Memory>
+    requires { RowsAscend rows.old.items }
+    ensures { OnOk result (rows.new.items ≡ put_rows put rows.old.items) }
+{
+    for placed in put.into_vec() {
+        put_row(rows, placed)?;
+    }
+    Ok(())
+}
+
+// Puts the row in the place of the one with its id, or at its own place among the others.
+fn put_row(rows: &mut Vec<Placed>, placed: Placed) -> Result<(), Memory>
+    requires { RowsAscend rows.old.items }
+    ensures { OnOk result (rows.new.items ≡ put_row placed rows.old.items) }
 {
     let id = placed.id;
-    if let Ok(place) = rows.binary_search_by(|row| row.id.cmp(&id)) {
-        rows[place] = placed;
+    match rows.binary_search_by(|row| row.id.cmp(&id)) {
+        Ok(place) => {
+            rows[place] = placed;
+            Ok(())
+        }
+        Err(place) => {
+            rows.insert(place, placed)?;
+            Ok(())
+        }
     }
 }

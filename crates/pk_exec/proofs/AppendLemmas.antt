@@ -16,7 +16,7 @@ use Rattle.pk_schema.specs.Admits.{Admits}
 use Rattle.pk_exec.specs.Edits.{inserted_into}
 use Rattle.pk_exec.specs.Entries.{Entry, New}
 use Rattle.pk_exec.specs.Bases.{base_rows, base_entry}
-use Rattle.pk_exec.specs.Works.{most_changes, Edits, TableEdits, IsWork, edits_at, edit_count, is_for, place_in, stands_at, put_table, with_table, add_rows, size_elsewhere, work_size, SameElsewhere, edit_ids}
+use Rattle.pk_exec.specs.Works.{most_changes, Edits, TableEdits, IsWork, edits_at, edit_count, is_for, place_in, stands_at, put_table, with_table, add_rows, size_elsewhere, work_size, SameElsewhere, edit_ids, no_edits_of}
 use Rattle.pk_exec.specs.Seen.{entries_of, new_entries, Covers, Fits, AreAdmitted, is_part}
 use Rattle.pk_exec.specs.Rows.{ids_of}
 use Rattle.pk_exec.proofs.WorkLemmas.{put_is_work, size_parts, edits_put, same_elsewhere, above_all, all_above, tables_of}
@@ -87,7 +87,7 @@ absent_in k (t ∷ ts) rise at = step (nat_le k t.table) refl at (absent_in k ts
         (deeper (subst (λ (n : ℕ). stands_at k (t ∷ ts) n ≡ false) (one_more (place_in k ts)) at))
 
 pub edits_absent : (w : Edits) (k place : ℕ) (b : Bool) → IsWork w → place ≡ place_in k w.tables → b ≡ stands_at k w.tables place → b ≡ false
-    → edits_at w k ≡ record { table = k; edited = []; added = [] }
+    → edits_at w k ≡ no_edits_of k
 unfolding edits_at
 edits_absent w k place b is at found there =
     rw (absent_in k w.tables is.ascend (ap (stands_at k w.tables) (sym at) ∙ sym found ∙ there)) refl
@@ -104,12 +104,12 @@ table_is : (w : Edits) (k : ℕ) → (edits_at w k).table ≡ k
 unfolding edits_at
 table_is w k = by_list w.tables
   where
-    by_list : (ts : List TableEdits) → (unwrap_or (find (is_for k) ts) (record { table = k; edited = []; added = [] })).table ≡ k
+    by_list : (ts : List TableEdits) → (unwrap_or (find (is_for k) ts) (no_edits_of k)).table ≡ k
     by_list [] = refl
     by_list (t ∷ ts) = by_same (t.table == k) refl (by_list ts)
       where
-        by_same : (b : Bool) → (t.table == k) ≡ b → (unwrap_or (find (is_for k) ts) (record { table = k; edited = []; added = [] })).table ≡ k
-            → (unwrap_or (if b then Some t else find (is_for k) ts) (record { table = k; edited = []; added = [] })).table ≡ k
+        by_same : (b : Bool) → (t.table == k) ≡ b → (unwrap_or (find (is_for k) ts) (no_edits_of k)).table ≡ k
+            → (unwrap_or (if b then Some t else find (is_for k) ts) (no_edits_of k)).table ≡ k
         by_same true same rest = eqb-true t.table k same
         by_same false differ rest = rest
 
@@ -135,3 +135,30 @@ pub added_fits : (w new : Edits) (k : ℕ) (rows : List (List Value)) (s : Shape
     → Fits w s k → All (Admits s) rows → Fits new s k
 added_fits w new k rows s is fits all =
     subst (AreAdmitted s) (sym (settled w new k rows is (table_is w k))) (fits.0, All-append (Admits s) (edits_at w k).added rows fits.1 all)
+
+-- ---- the edits of a table are taken
+
+-- the tables after those of the one at the place were taken
+emptied_tables :
+    (w : Edits) (items : List TableEdits) (k place : ℕ) (b : Bool) → record { tables = items } ≡ w → place ≡ place_in k w.tables
+    → b ≡ stands_at k w.tables place → b ≡ true → record { tables = set items place (no_edits_of k) } ≡ with_table (no_edits_of k) w
+emptied_tables w items k place b view at found there =
+    ap (λ (ts : List TableEdits). record { tables = ts }) (put_set (no_edits_of k) w items k place b view refl at found there)
+
+pub emptied_work :
+    (w : Edits) (items : List TableEdits) (k place : ℕ) (b : Bool) (x : TableEdits) → x ≡ no_edits_of k → record { tables = items } ≡ w → IsWork w
+    → place ≡ place_in k w.tables → b ≡ stands_at k w.tables place → b ≡ true → IsWork (record { tables = set items place x })
+emptied_work w items k place b x none view is at found there =
+    rw none
+    (subst IsWork (sym (emptied_tables w items k place b view at found there))
+    (put_is_work (no_edits_of k) w is (omega (arith, is.most, size_parts w k is))))
+
+-- the table has none then, and each other has its own
+pub emptied_edits :
+    (w new : Edits) (items : List TableEdits) (k place : ℕ) (b : Bool) (x : TableEdits) → x ≡ no_edits_of k → record { tables = items } ≡ w
+    → place ≡ place_in k w.tables → b ≡ stands_at k w.tables place → b ≡ true → new ≡ record { tables = set items place x }
+    → (edits_at new k ≡ no_edits_of k) × SameElsewhere k w new
+emptied_edits w new items k place b x none view at found there is =
+    let put : new ≡ with_table (no_edits_of k) w =
+    is ∙ ap (λ (t : TableEdits). record { tables = set items place t }) none ∙ emptied_tables w items k place b view at found there in
+    (ap (λ (e : Edits). edits_at e k) put ∙ edits_put (no_edits_of k) w, subst (SameElsewhere k w) (sym put) (same_elsewhere (no_edits_of k) w))

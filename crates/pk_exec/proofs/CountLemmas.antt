@@ -21,6 +21,7 @@ use Rattle.pk_exec.specs.Told.{gone_by, gone_edits, put_by, put_edits}
 use Rattle.pk_exec.proofs.DraftLemmas.{changed_id, part_skip}
 use Rattle.std.proofs.Math.Bool.{and-false, and-true, or-false}
 use Rattle.std.proofs.lemmas.List.Folds.{list_any-append}
+use Rattle.pk_exec.proofs.ListLemmas.{rest_from}
 
 -- ---- rows of the base beside what edits leave of them
 
@@ -70,13 +71,13 @@ none_below : (bs : List BaseRow) (ps : List Placed) (least id : ℕ) → id < le
 unfolding AreOf
 none_below [] ps least id below up all = (refl, refl)
 none_below (b ∷ bs) [] least id below up all = absurd all
-none_below (b ∷ bs) (p ∷ ps) least id below up all = by_edited b.edited (none_below bs ps (p.id + 1) id (omega (arith, up.0, below)) up.1 all.2)
+none_below (b ∷ bs) (p ∷ ps) least id below up all = by_edited b.edited (none_below bs ps (p.id + 1) id (omega (arith, up.1.0, below)) (rest_from least p ps up) all.2)
   where
     by_edited : (edited : Bool) → (edit_for (edits_in bs) id ≡ None) × (edits_behind (edits_in bs) id ≡ edits_in bs)
         → (edit_for (cons_option (edit_by edited b.id b.row) (edits_in bs)) id ≡ None)
         × (edits_behind (cons_option (edit_by edited b.id b.row) (edits_in bs)) id ≡ cons_option (edit_by edited b.id b.row) (edits_in bs))
     by_edited true rest =
-        let apart = ne_eqb b.id id (λ e. omega (arith, e, all.0, up.0, below)) in
+        let apart = ne_eqb b.id id (λ e. omega (arith, e, all.0, up.1.0, below)) in
         (rw apart refl, rw apart refl)
     by_edited false rest = rest
 
@@ -97,7 +98,7 @@ unfolding base_rows AreOf
 bases_again [] [] least up all = refl
 bases_again [] (p ∷ ps) least up all = absurd all
 bases_again (b ∷ bs) [] least up all = absurd all
-bases_again (b ∷ bs) (p ∷ ps) least up all = by_edited b.edited refl (bases_again bs ps (p.id + 1) up.1 all.2)
+bases_again (b ∷ bs) (p ∷ ps) least up all = by_edited b.edited refl (bases_again bs ps (p.id + 1) (rest_from least p ps up) all.2)
   where
     by_edited : (edited : Bool) → b.edited ≡ edited → base_rows (edits_in bs) ps ≡ bs
         → base_rows (cons_option (edit_by edited b.id b.row) (edits_in bs)) (p ∷ ps) ≡ b ∷ bs
@@ -105,7 +106,7 @@ bases_again (b ∷ bs) (p ∷ ps) least up all = by_edited b.edited refl (bases_
         rw (eq-eqb b.id p.id all.0)
         (ap (λ (x : BaseRow). x ∷ base_rows (edits_in bs) ps) (same_base b p.id true b.row all.0 is refl) ∙ ap (λ (xs : List BaseRow). b ∷ xs) rest)
     by_edited false is rest =
-        let w = none_below bs ps (p.id + 1) p.id (omega arith) up.1 all.2 in
+        let w = none_below bs ps (p.id + 1) p.id (omega arith) (rest_from least p ps up) all.2 in
         rw (w.0, w.1)
         (ap (λ (x : BaseRow). x ∷ base_rows (edits_in bs) ps) (same_base b p.id false (Some p.row) all.0 is (all.1 is)) ∙ ap (λ (xs : List BaseRow). b ∷ xs) rest)
 
@@ -227,7 +228,7 @@ entries_have id bs added =
 kept_same : (p q : ℕ → Bool) (ps : List Placed) (least : ℕ) → AscendFrom least ps → ((id : ℕ) → least ≤ id → p id ≡ q id) → filter p (ids_of ps) ≡ filter q (ids_of ps)
 kept_same p q [] least up same = refl
 kept_same p q (x ∷ ps) least up same =
-    rw (same x.id up.0) (by_one (q x.id) (kept_same p q ps (x.id + 1) up.1 (λ id above. same id (omega (arith, above, up.0)))))
+    rw (same x.id up.1.0) (by_one (q x.id) (kept_same p q ps (x.id + 1) (rest_from least x ps up) (λ id above. same id (omega (arith, above, up.1.0)))))
   where
     by_one : (b : Bool) → filter p (ids_of ps) ≡ filter q (ids_of ps) → (if b then x.id ∷ filter p (ids_of ps) else filter p (ids_of ps)) ≡ (if b then x.id ∷ filter q (ids_of ps) else filter q (ids_of ps))
     by_one true rest = ap (λ (is : List ℕ). x.id ∷ is) rest
@@ -239,7 +240,7 @@ unfolding AreOf
 none_there [] ps least id below up all = refl
 none_there (b ∷ bs) [] least id below up all = absurd all
 none_there (b ∷ bs) (p ∷ ps) least id below up all =
-    rw (ne_eqb b.id id (λ e. omega (arith, e, all.0, up.0, below))) (none_there bs ps (p.id + 1) id (omega (arith, up.0, below)) up.1 all.2)
+    rw (ne_eqb b.id id (λ e. omega (arith, e, all.0, up.1.0, below))) (none_there bs ps (p.id + 1) id (omega (arith, up.1.0, below)) (rest_from least p ps up) all.2)
 
 gone_of : (edited : Bool) (id : ℕ) (o : Option (List Value)) (row : List Value) (es : List EditedRow) → (edited ≡ false → o ≡ Some row)
     → gone_edits (cons_option (edit_by edited id o) es) ≡ (if not (is_some o) then id ∷ gone_edits es else gone_edits es)
@@ -258,12 +259,12 @@ bases_gone (b ∷ bs) [] least up all = absurd all
 bases_gone (b ∷ bs) (p ∷ ps) least up all =
     let here : list_any (is_there p.id) (b ∷ bs) ≡ is_some b.row =
     ap (λ (t : Bool). (t && is_some b.row) || list_any (is_there p.id) bs) (eq-eqb b.id p.id all.0)
-    ∙ ap (λ (t : Bool). is_some b.row || t) (none_there bs ps (p.id + 1) p.id (omega arith) up.1 all.2)
+    ∙ ap (λ (t : Bool). is_some b.row || t) (none_there bs ps (p.id + 1) p.id (omega arith) (rest_from least p ps up) all.2)
     ∙ or-false (is_some b.row) in
     let later : filter (λ id. not (list_any (is_there id) (b ∷ bs))) (ids_of ps) ≡ gone_edits (edits_in bs) =
-    kept_same (λ id. not (list_any (is_there id) (b ∷ bs))) (λ id. not (list_any (is_there id) bs)) ps (p.id + 1) up.1
+    kept_same (λ id. not (list_any (is_there id) (b ∷ bs))) (λ id. not (list_any (is_there id) bs)) ps (p.id + 1) (rest_from least p ps up)
     (λ id above. ap (λ (t : Bool). not ((t && is_some b.row) || list_any (is_there id) bs)) (ne_eqb b.id id (λ e. omega (arith, e, all.0, above))))
-    ∙ bases_gone bs ps (p.id + 1) up.1 all.2 in
+    ∙ bases_gone bs ps (p.id + 1) (rest_from least p ps up) all.2 in
     ap (λ (t : Bool). if not t then p.id ∷ filter (λ id. not (list_any (is_there id) (b ∷ bs))) (ids_of ps) else filter (λ id. not (list_any (is_there id) (b ∷ bs))) (ids_of ps)) here
     ∙ ap (λ (is : List ℕ). if not (is_some b.row) then p.id ∷ is else is) later
     ∙ ap (λ (n : ℕ). if not (is_some b.row) then n ∷ gone_edits (edits_in bs) else gone_edits (edits_in bs)) (sym all.0)

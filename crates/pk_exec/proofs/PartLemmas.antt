@@ -12,6 +12,7 @@ use Rattle.pk_exec.specs.Laws.{CoveredRowsAreThere}
 use Rattle.pk_exec.specs.Rows.{AscendFrom, ids_of, has_id}
 use Rattle.pk_exec.specs.Seen.{is_part}
 use Rattle.pk_exec.specs.Works.{edited_ids}
+use Rattle.pk_exec.proofs.ListLemmas.{rest_from}
 
 part_there : (is : List ℕ) (rows : List Placed) → is_part is (ids_of rows) ≡ true → list_all (has_id rows) is ≡ true
 part_there [] rows part = refl
@@ -30,8 +31,8 @@ id_above : (least : ℕ) (rows : List Placed) (i : ℕ) → AscendFrom least row
 id_above least [] i ascend there = cc
 id_above least (p ∷ ps) i ascend there =
     elim (cases_eq p.id i) [
-      | inl same ↦ omega (arith, ascend.0, same)
-      | inr other ↦ let later = id_above (p.id + 1) ps i ascend.1 (rw (ne_eqb p.id i other) at there) in omega (arith, ascend.0, later)
+      | inl same ↦ omega (arith, ascend.1.0, same)
+      | inr other ↦ let later = id_above (p.id + 1) ps i (rest_from least p ps ascend) (rw (ne_eqb p.id i other) at there) in omega (arith, ascend.1.0, later)
     ]
 
 -- those above the first row stand among the others
@@ -55,12 +56,12 @@ there_part least (i ∷ is) (p ∷ ps) rise ascend all =
     elim (cases_eq i p.id) [
       | inl same ↦
           rw (eq-eqb i p.id same)
-          (there_part (p.id + 1) is ps rise.1 ascend.1 (among_others p ps is (all_above p.id i is (omega (arith, same)) rise.0) parts.1))
+          (there_part (p.id + 1) is ps rise.1 (rest_from least p ps ascend) (among_others p ps is (all_above p.id i is (omega (arith, same)) rise.0) parts.1))
       | inr other ↦
           let here : has_id ps i ≡ true = rw (ne_eqb p.id i (λ same. other (sym same))) at parts.0 in
-          let more = id_above (p.id + 1) ps i ascend.1 here in
+          let more = id_above (p.id + 1) ps i (rest_from least p ps ascend) here in
           rw (ne_eqb i p.id other)
-          (there_part (p.id + 1) (i ∷ is) ps rise ascend.1
+          (there_part (p.id + 1) (i ∷ is) ps rise (rest_from least p ps ascend)
           (and_from (has_id ps i) (list_all (has_id ps) is) here (among_others p ps is (all_above p.id i is (omega (arith, more)) rise.0) parts.1)))
     ]
 

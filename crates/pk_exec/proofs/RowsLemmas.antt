@@ -3,12 +3,13 @@ use Rattle.std.proofs.Common.{◌≡◌, ℕ, ◌+◌, ◌≤◌, ◌<◌, Bool,
 use Rattle.std.proofs.lemmas.Bool.{ltb-true, ltb-false, lt-ltb, le-ltb, eq-eqb, ne_eqb}
 use Rattle.pk_values.specs.declared.placed.Placed.{Placed}
 use Rattle.pk_exec.specs.Rows.{AscendFrom, rows_above, first_id, next_id, has_id, row_of}
+use Rattle.pk_exec.proofs.ListLemmas.{rest_from}
 
 -- rows that ascend from an id on are all behind one below it
 pub all_above : (id least : ℕ) (ps : List Placed) → id < least → AscendFrom least ps → rows_above id ps ≡ ps
 unfolding rows_above
 all_above id least [] below up = refl
-all_above id least (p ∷ ps) below up = rw (lt-ltb id p.id (omega (arith, up.0, below))) refl
+all_above id least (p ∷ ps) below up = rw (lt-ltb id p.id (omega (arith, up.1.0, below))) refl
 
 -- what is known of a row that is next behind an id
 pub record IsNext (rows : List Placed) (id n : ℕ) (p : Placed) (rest : List Placed) : Type 0 where
@@ -27,7 +28,7 @@ unfolding rows_above
 here id least n p ps up later is = record {
   above = rw (lt-ltb id p.id later) refl;
   is = is;
-  behind = rw (le-ltb n p.id (omega (arith, is))) (all_above n (p.id + 1) ps (omega (arith, is)) up.1);
+  behind = rw (le-ltb n p.id (omega (arith, is))) (all_above n (p.id + 1) ps (omega (arith, is)) (rest_from least p ps up));
   found = rw (eq-eqb p.id n is) refl;
   there = rw (eq-eqb p.id n is) refl;
   later = omega (arith, later, is);
@@ -54,20 +55,20 @@ pub record HasNext (rows : List Placed) (id least n : ℕ) : Type 0 where
 pub next_row : (id least n : ℕ) (rows : List Placed) → AscendFrom least rows → next_id id rows ≡ Some n → HasNext rows id least n
 unfolding rows_above
 next_row id least n [] up is = absurd (cc)
-next_row id least n (p ∷ ps) up is = split (nat_lt id p.id) refl is (λ rest. next_row id (p.id + 1) n ps up.1 rest)
+next_row id least n (p ∷ ps) up is = split (nat_lt id p.id) refl is (λ rest. next_row id (p.id + 1) n ps (rest_from least p ps up) rest)
   where
     split : (b : Bool) → nat_lt id p.id ≡ b → first_id (if b then p ∷ ps else rows_above id ps) ≡ Some n
         → (next_id id ps ≡ Some n → HasNext ps id (p.id + 1) n) → HasNext (p ∷ ps) id least n
     split true before is deeper =
         let same : p.id ≡ n = cc in
-        record { placed = p; rest = ps; next = here id least n p ps up (ltb-true id p.id before) same; most = omega (arith, up.0, same) }
+        record { placed = p; rest = ps; next = here id least n p ps up (ltb-true id p.id before) same; most = omega (arith, up.1.0, same) }
     split false before is deeper =
         let w = deeper is in
         record {
           placed = w.placed;
           rest = w.rest;
-          next = there id least n p w.placed ps w.rest up.0 (omega (arith, w.most)) (ltb-false id p.id before) w.next;
-          most = omega (arith, w.most, up.0);
+          next = there id least n p w.placed ps w.rest up.1.0 (omega (arith, w.most)) (ltb-false id p.id before) w.next;
+          most = omega (arith, w.most, up.1.0);
         }
 
 -- where no row is next, none is left

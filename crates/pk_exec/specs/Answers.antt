@@ -27,13 +27,13 @@ abbrev pub Answers : {X : Type 0} → List (Option Refusal) → X → Result X E
 Answers refusals meaning (Ok x) = (first_some refusals ≡ None) × (x ≡ meaning)
 Answers refusals meaning (Err e) = IsCause refusals e
 
--- this holds where the statement is refused
-abbrev pub OnRefusal : {X : Type 0} → Result X ExecErr → Type 0 → Type 0
-OnRefusal (Ok x) P = Unit {0}
-OnRefusal (Err (causes.Refused r)) P = P
-OnRefusal (Err causes.Disk) P = Unit {0}
-OnRefusal (Err causes.Changed) P = Unit {0}
-OnRefusal (Err causes.Memory) P = Unit {0}
+-- this holds where the statement is refused, and where the store failed
+abbrev pub OnUndone : {X : Type 0} → Result X ExecErr → Type 0 → Type 0
+OnUndone (Ok x) P = Unit {0}
+OnUndone (Err (causes.Refused r)) P = P
+OnUndone (Err causes.Disk) P = P
+OnUndone (Err causes.Changed) P = P
+OnUndone (Err causes.Memory) P = Unit {0}
 
 -- ---- of INSERT, which reads no row
 

@@ -1,7 +1,10 @@
 -- Rows with ids, in the order of their ids.
-use Rattle.std.specs.Prelude.{ℕ, ◌+◌, ◌≤◌, Bool, ◌==◌, List, [], ◌∷◌, map, Option, Some, None, nat_lt, if◌then◌else◌}
+use Rattle.std.specs.Prelude.{ℕ, ◌≤◌, Bool, ◌==◌, List, [], ◌∷◌, map, Option, Some, None, nat_lt, if◌then◌else◌}
 use Rattle.std.proofs.Props.{props}
-use Rattle.std.specs.List.{find, list_any}
+use Rattle.std.proofs.lemmas.Map.Keys.{IsStrictlySortedBy-prop}
+use Rattle.std.specs.List.{find, list_any, AllByRecursion, AllByRecursion-prop}
+use Rattle.std.specs.List.Sorted.{IsStrictlySortedBy}
+use Rattle.std.specs.Ordering.{nat_cmp}
 use Rattle.std.specs.Option.{option_map}
 use Rattle.pk_values.specs.declared.placed.Placed.{Placed}
 use Rattle.pk_values.specs.declared.value.Value.{Value}
@@ -11,13 +14,14 @@ ids_of rows = map (λ (p : Placed). p.id) rows
 
 -- the ids ascend, and none is below this number
 abbrev pub AscendFrom : ℕ → List Placed → Type 0
-AscendFrom least [] = Unit {0}
-AscendFrom least (p ∷ ps) = (least ≤ p.id) × AscendFrom (p.id + 1) ps
+AscendFrom least rows = IsStrictlySortedBy nat_cmp (ids_of rows) × AllByRecursion (λ (p : Placed). least ≤ p.id) rows
 
 -- that they ascend is a fact, which has no two forms
 pub AscendFrom-prop : (least : ℕ) (rows : List Placed) → IsProp (AscendFrom least rows)
-AscendFrom-prop least [] = hlevel
-AscendFrom-prop least (p ∷ ps) = let rest = AscendFrom-prop (p.id + 1) ps in hlevel (props, rest)
+AscendFrom-prop least rows =
+    let sorted = IsStrictlySortedBy-prop nat_cmp (ids_of rows) in
+    let above = AllByRecursion-prop (λ (p : Placed). least ≤ p.id) (λ p. hlevel props) rows in
+    hlevel (sorted, above)
 
 -- the rows behind the id
 unfoldable pub rows_above : ℕ → List Placed → List Placed

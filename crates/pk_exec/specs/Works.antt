@@ -25,9 +25,13 @@ no_edits = record { tables = [] }
 abbrev pub is_for : ℕ → TableEdits → Bool
 is_for table t = t.table == table
 
+-- no edits of the table
+abbrev pub no_edits_of : ℕ → TableEdits
+no_edits_of table = record { table = table; edited = []; added = [] }
+
 -- the edits of the table; none where the transaction has none of it
 unfoldable pub edits_at : Edits → ℕ → TableEdits
-edits_at w table = unwrap_or (find (is_for table) w.tables) (record { table = table; edited = []; added = [] })
+edits_at w table = unwrap_or (find (is_for table) w.tables) (no_edits_of table)
 
 abbrev pub edit_ids : List EditedRow → List ℕ
 edit_ids edits = map (λ (e : EditedRow). e.id) edits

@@ -1,7 +1,8 @@
 ghost use Rattle.std.specs.Prelude.{◌≡◌, ◌≤◌, OnOk, OnErr};
-ghost use Rattle.pk_exec.specs.Works.{most_changes, edit_count, has_edits, add_rows};
+ghost use Rattle.pk_exec.specs.Works.{most_changes, edit_count, has_edits, add_rows, no_edits_of};
 
 use pk_values::{Memory, Row};
+use std::alloc::Global;
 use std::marker::Model;
 
 /// A row of the base that is edited: its new row, or `None` where it is gone.
@@ -30,6 +31,17 @@ impl Model for TableEdits {
 }
 
 impl TableEdits {
+    /// No edits of the table.
+    pub(crate) fn none(alloc: Global, table: u32) -> TableEdits
+        ensures { result ≡ no_edits_of table }
+    {
+        TableEdits {
+            table,
+            edited: Vec::new(alloc),
+            added: Vec::new(alloc),
+        }
+    }
+
     /// How many rows are changed.
     pub(crate) fn size(&self) -> u64
         requires { edit_count self.now ≤ most_changes }

@@ -33,7 +33,7 @@ impl Stored {
     {
         let mut work = Work::new(*self.rows.allocator());
         match work.insert(&self.schema, TABLE, insert) {
-            Ok(n) => self.done(&work, n),
+            Ok(n) => self.done(&mut work, n),
             Err(InsertErr::Refused(refusal)) => Ok(Outcome::Refused(refusal)),
             Err(InsertErr::Memory) => Err(Memory),
         }
@@ -48,7 +48,7 @@ impl Stored {
         let mut work = Work::new(*self.rows.allocator());
         let mut view = ListView::new(self.rows.as_slice());
         match work.update(&self.schema, TABLE, &mut view, update) {
-            Ok(n) => self.done(&work, n),
+            Ok(n) => self.done(&mut work, n),
             Err(ExecErr::Refused(refusal)) => Ok(Outcome::Refused(refusal)),
             Err(ExecErr::Disk | ExecErr::Changed | ExecErr::Memory) => Err(Memory),
         }
@@ -63,19 +63,19 @@ impl Stored {
         let mut work = Work::new(*self.rows.allocator());
         let mut view = ListView::new(self.rows.as_slice());
         match work.delete(&self.schema, TABLE, &mut view, delete) {
-            Ok(n) => self.done(&work, n),
+            Ok(n) => self.done(&mut work, n),
             Err(ExecErr::Refused(refusal)) => Ok(Outcome::Refused(refusal)),
             Err(ExecErr::Disk | ExecErr::Changed | ExecErr::Memory) => Err(Memory),
         }
     }
 
     // The changes of a statement that took so many rows.
-    fn done(&self, work: &Work, n: u64) -> Result<Outcome, Memory>
+    fn done(&self, work: &mut Work, n: u64) -> Result<Outcome, Memory>
         requires valid { IsValidTable self.now }
-        requires covers { Covers work.now TABLE self.now.rows }
-        ensures { IfOk result (λ done. done ≡ Outcome.Done n (changes_in self.now (entries_of work.now TABLE self.now.rows))) }
+        requires covers { Covers work.old TABLE self.now.rows }
+        ensures { IfOk result (λ done. done ≡ Outcome.Done n (changes_in self.now (entries_of work.old TABLE self.now.rows))) }
     {
-        let changes = work.changes(TABLE, self.next)?;
+        let changes = work.take_changes(TABLE, self.next)?;
         Ok(Outcome::Done { n, changes })
     }
 

@@ -12,7 +12,7 @@ ghost use Rattle.pk_exec.specs.Seen.{Covers, Fits, entries_of};
 ghost use Rattle.pk_exec.specs.Drafts.{change_fits};
 ghost use Rattle.pk_exec.specs.Settling.{IsSettled, IsChanged};
 ghost use Rattle.pk_exec.specs.Refusals.{work_update_refusals, work_delete_refusals};
-ghost use Rattle.pk_exec.specs.Answers.{Answers, OnRefusal};
+ghost use Rattle.pk_exec.specs.Answers.{Answers, OnUndone};
 ghost use Rattle.pk_exec.specs.Views.{IsLeft, HasCause};
 
 use crate::change::Change;
@@ -28,7 +28,7 @@ use pk_values::Refusal;
 
 impl Work {
     /// Changes the rows that an UPDATE takes, and tells how many. A refused one leaves the edits as they
-    /// were; after `Memory` nothing is claimed of them.
+    /// were, and so does one that the store failed; after `Memory` nothing is claimed of them.
     pub fn update<V: View>(
         &mut self,
         schema: &Schema,
@@ -45,7 +45,7 @@ impl Work {
         ensures covers { OnOk result (Covers self.new table (V.rows view.old)) }
         ensures others { OnOk result (SameElsewhere table self.old self.new) }
         ensures fits { OnOk result (Fits self.new schema.now table) }
-        ensures refused { OnRefusal result (self.new ≡ self.old) }
+        ensures undone { OnUndone result (self.new ≡ self.old) }
         ensures view { IsLeft V.View view.old view.new }
         ensures cause { HasCause V.View view.old view.new result }
     {
@@ -56,7 +56,7 @@ impl Work {
     }
 
     /// Takes away the rows that a DELETE takes, and tells how many. A refused one leaves the edits as
-    /// they were; after `Memory` nothing is claimed of them.
+    /// they were, and so does one that the store failed; after `Memory` nothing is claimed of them.
     pub fn delete<V: View>(
         &mut self,
         schema: &Schema,
@@ -73,7 +73,7 @@ impl Work {
         ensures covers { OnOk result (Covers self.new table (V.rows view.old)) }
         ensures others { OnOk result (SameElsewhere table self.old self.new) }
         ensures fits { OnOk result (Fits self.new schema.now table) }
-        ensures refused { OnRefusal result (self.new ≡ self.old) }
+        ensures undone { OnUndone result (self.new ≡ self.old) }
         ensures view { IsLeft V.View view.old view.new }
         ensures cause { HasCause V.View view.old view.new result }
     {
@@ -90,7 +90,7 @@ impl Work {
         ensures covers { OnOk result (Covers self.new table (V.rows view.old)) }
         ensures others { OnOk result (SameElsewhere table self.old self.new) }
         ensures fits { OnOk result ((s : Shape) → V.fits view.old s → Fits self.old s table → IsTrue (change_fits s.columns change.now) → Fits self.new s table) }
-        ensures refused { OnRefusal result (self.new ≡ self.old) }
+        ensures undone { OnUndone result (self.new ≡ self.old) }
         ensures view { IsLeft V.View view.old view.new }
         ensures cause { HasCause V.View view.old view.new result }
     {

@@ -8,8 +8,9 @@ use Rattle.pk_schema.specs.Making.{no_column, declared_twice}
 use Rattle.pk_exec.specs.Changes.{gone_ids}
 use Rattle.pk_exec.specs.Selecting.{row_cmp, sorted_by}
 use Rattle.pk_guard.specs.Breaks.{first_pair, first_broken, first_break}
+use Rattle.pk_guard.specs.Changed.{put_row, put_rows}
 use Rattle.pk_engine.specs.Answer.{answer}
-use Rattle.pk_engine.specs.Base.{table_named, with_table, without_table, with_row, with_rows, changed_by, change_table}
+use Rattle.pk_engine.specs.Base.{table_named, with_table, without_table, changed_by, change_table}
 use Rattle.pk_engine.specs.Create.{table_exists}
 use Rattle.pk_engine.specs.Keys.{key_broken}
 use Rattle.pk_engine.specs.State.{after, current}
@@ -29,14 +30,14 @@ returns-clause-tables c = record {
 }
 
 pub returns-clause-changes : goal.returns-clause-changes
-unfolding gone_ids with_row with_rows changed_by
+unfolding gone_ids put_row put_rows changed_by
 returns-clause-changes c = record {
   nothing = refl;
   all_gone = refl;
   in_its_place = refl;
   at_the_end = refl;
   gone_before_put = refl;
-  gone_ids_stay_free = refl;
+  between_others = refl;
   no_entry = refl;
   all_kept = refl;
   touched_as_it_was = refl;
@@ -45,7 +46,7 @@ returns-clause-changes c = record {
 }
 
 pub returns-clause-limits : goal.returns-clause-limits
-unfolding columns same_value fill_values strong place_of_column set_where no_column declared_twice first_pair first_broken first_break table_named with_row with_rows changed_by change_table table_exists key_broken after current
+unfolding columns same_value fill_values strong place_of_column set_where no_column declared_twice first_pair first_broken first_break table_named put_row put_rows changed_by change_table table_exists key_broken after current
 returns-clause-limits c = record {
   the_last_row = refl;
   one_row_more = refl;
@@ -56,6 +57,8 @@ returns-clause-limits c = record {
   the_last_commit = refl;
   one_commit_more = refl;
   the_last_id = refl;
+  rows_before_ids = refl;
+  ids_behind_rows = refl;
   ids_before_commits = refl;
   commits_before_keys = refl;
   a_key_at_last = refl;

@@ -2,10 +2,10 @@ use Rattle.std.proofs.Common.{rules, refl}
 use Rattle.pk_engine.proofs.CommitLemmas.{counted, changes_stand, valid_at, some_at, same_at}
 use Rattle.pk_engine.proofs.engine.Engine.commit.Goals as goal
 
-pub change-requires-clause-rise : goal.change-requires-clause-rise
-change-requires-clause-rise c =
+pub change-requires-clause-ascend : goal.change-requires-clause-ascend
+change-requires-clause-ascend c =
     let is = some_at c.args.self.now.tables.items c.args.place c.index_mut.result.now c.requires.within c.index_mut.ensures.value in
-    (valid_at c.args.self.now c.requires.stands.0 c.args.place c.index_mut.result.now c.requires.stands.1 is).ids
+    (valid_at c.args.self.now c.requires.stands.0 c.args.place c.index_mut.result.now c.requires.stands.1 is).ids.0
 
 pub change-requires-clause-gone : goal.change-requires-clause-gone
 change-requires-clause-gone c =

@@ -1,8 +1,8 @@
 use Rattle.std.proofs.Common.{◌≡◌, ◌-◌, ◌+◌, ◌^◌, ◌<◌, ◌≤◌, ℕ, ap, ◌∙◌, sym, subst}
 use Rattle.std.specs.Prelude.{min}
-use Rattle.pk_engine.specs.Base.{Table}
+use Rattle.pk_engine.specs.Base.{Table, added_by}
 use Rattle.pk_engine.specs.Limits.{most_ids}
-use Rattle.pk_engine.proofs.CommitLemmas.{added_by, counted, rows_free, ids_refused, ids_free, same_at, valid_at}
+use Rattle.pk_engine.proofs.CommitLemmas.{counted, rows_free, ids_refused, ids_free, same_at, valid_at}
 use Rattle.pk_engine.proofs.engine.Engine.limit_refusal.Goals as goal
 
 pub returns-then-saturating_add-gt-MOST_IDS-clause-stands : goal.returns-then-saturating_add-gt-MOST_IDS-clause-stands

@@ -1,7 +1,7 @@
 use Rattle.std.proofs.Common.{◌≡◌, ◌-◌, ◌+◌, ◌^◌, ℕ, List, length, ap, ◌∙◌}
 use Rattle.std.specs.Prelude.{min}
-use Rattle.pk_engine.specs.Base.{Table}
-use Rattle.pk_engine.proofs.CommitLemmas.{added_by, counted, rows_with_is, same_at, valid_at}
+use Rattle.pk_engine.specs.Base.{Table, added_by}
+use Rattle.pk_engine.proofs.CommitLemmas.{counted, rows_with_is, same_at, valid_at}
 use Rattle.pk_engine.proofs.engine.Engine.rows_with.Goals as goal
 
 pub returns : goal.returns

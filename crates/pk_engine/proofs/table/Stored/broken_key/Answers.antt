@@ -13,13 +13,13 @@ use Rattle.pk_engine.specs.Base.{Table}
 use Rattle.pk_engine.specs.Keys.{KeepsKeys}
 use Rattle.pk_engine.proofs.CommitLemmas.{counted}
 use Rattle.pk_engine.proofs.KeyLemmas.{broken_by}
-use Rattle.pk_engine.proofs.PutLemmas.{rise_sorted, put_ascend, put_admitted}
+use Rattle.pk_engine.proofs.PutLemmas.{put_ascend, put_admitted}
 use Rattle.pk_engine.proofs.StandsLemmas.{if_ok}
 use Rattle.pk_engine.proofs.table.Stored.broken_key.Goals as goal
 
 pub first_break-requires-clause-ascend : goal.first_break-requires-clause-ascend
 first_break-requires-clause-ascend c =
-    rw c.as_slice-rows.ensures.value (subst (λ (t : Table). IsStrictlySortedBy nat_cmp (ids_of t.rows)) (sym c.self.view_is) (rise_sorted 1 c.args.self.now.next c.args.self.now.rows c.requires.valid.ids))
+    rw c.as_slice-rows.ensures.value (subst (λ (t : Table). IsStrictlySortedBy nat_cmp (ids_of t.rows)) (sym c.self.view_is) c.requires.valid.ids.0)
 
 pub first_break-requires-clause-admitted : goal.first_break-requires-clause-admitted
 first_break-requires-clause-admitted c =
@@ -44,5 +44,5 @@ returns c =
     let ch = c.args.changes.now in
     if_ok c.refusal_of.result c.refusal_of.ensures (λ r is.
     is ∙ ap (λ (u : Table). option_map (BrokenKey u.name) c.in_ok-broken.broken) c.self.view_is
-    ∙ broken_by t ch c.in_ok-broken.broken c.requires.valid c.requires.of
+    ∙ broken_by t ch c.in_ok-broken.broken
     (subst (λ (u : Table). c.in_ok-broken.broken ≡ first_break u.shape (changed_rows ch u.rows)) c.self.view_is (rw c.as_slice-rows.ensures.value at c.in_ok-broken.ensures)))

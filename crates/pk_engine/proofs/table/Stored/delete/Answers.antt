@@ -51,4 +51,4 @@ returns-in-Err-Refused c =
     let s = c.self.inside.schema in
     let shape : s ≡ t.shape = ap (λ (x : Table). x.shape) c.self.view_is in
     let rows : listed c.new-view.result ≡ t.rows = c.new-view.ensures ∙ c.as_slice.ensures.value ∙ ap (λ (x : Table). x.rows) c.self.view_is in
-    ap first_some (sym (delete_refusals_are t s (listed c.new-view.result) c.new-work.result u shape rows (c.new-work.ensures.entries, c.new-work.ensures.elsewhere))) ∙ subst (IsCause (work_delete_refusals s (size_elsewhere c.new-work.result TABLE) (listed c.new-view.result) (entries_of c.new-work.result TABLE (listed c.new-view.result)) u)) c.in-Err-Refused.field-0-is (c.in-Err-Refused.ensures.answer refl)
+    rw c.in-Err-Refused.field-0-is (ap first_some (sym (delete_refusals_are t s (listed c.new-view.result) c.new-work.result u shape rows (c.new-work.ensures.entries, c.new-work.ensures.elsewhere))) ∙ subst (IsCause (work_delete_refusals s (size_elsewhere c.new-work.result TABLE) (listed c.new-view.result) (entries_of c.new-work.result TABLE (listed c.new-view.result)) u)) c.in-Err-Refused.field-0-is (c.in-Err-Refused.ensures.answer refl))
