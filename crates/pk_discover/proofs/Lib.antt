@@ -1,0 +1,6 @@
+pub mod ListLemmas
+pub mod SetLemmas
+pub mod MinimalLemmas
+pub mod PairLemmas
+pub mod CompletionLemmas
+pub mod TransversalLemmas
