@@ -1,0 +1,11 @@
+pub mod PartReading
+pub mod Lists
+pub mod Rows
+pub mod Bits
+pub mod Texts
+pub mod Tables
+pub mod SchemaMaking
+pub mod OneRecord
+pub mod TableMaking
+pub mod OneBase
+pub mod Committing

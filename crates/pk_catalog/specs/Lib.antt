@@ -1,0 +1,7 @@
+pub mod Records
+pub mod Reading
+pub mod Making
+pub mod Bases
+pub mod Batches
+pub mod Laws
+pub mod Edges
