@@ -1,2 +1,4 @@
 pub mod Entries
+pub mod Family
+pub mod Edges
 pub mod Laws

@@ -15,4 +15,6 @@ mod guard;
 #[cfg(test)]
 mod imply;
 #[cfg(test)]
+mod listing;
+#[cfg(test)]
 mod schema;
