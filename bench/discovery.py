@@ -8,13 +8,10 @@ program is proved and built by `rt run`, from the crates as they stand, in a fol
 """
 
 import os
-import pathlib
-import shutil
-import subprocess
 import tempfile
 
-TOP = pathlib.Path(__file__).resolve().parent.parent
-RUNS = 5
+from proved import TOP, built_in, figures
+
 CRATES = {
     "pk_values": "",
     "pk_similar": "pk_values",
@@ -56,6 +53,7 @@ fn main(rt: HostRuntime) -> Result<(), Fail> {
     Ok(())
 }
 
+#[tactic(auto, using(crate::proofs::WideLemmas::wide_rows))]
 fn count_keys<R: Threads>(rt: &R, alloc: Global, rows: &[Row], all: ColSet) -> Result<usize, Fail> {
     if !are_wide(rows, all) {
         return Err("no columns of all rows".into());
@@ -107,13 +105,34 @@ fn value(random: u64, c: u32) -> Value {
 }
 """
 
-LIB = "pub mod WideLemmas\n"
+FILES = {
+    "src/main.rt": MAIN,
+    "proofs/Lib.antt": "pub mod WideLemmas\n",
+    "proofs/WideLemmas.antt": (TOP / "crates" / "pk_discover_tests" / "proofs" / "WideLemmas.antt").read_text(),
+}
 
-ANSWERS = """
-use Rattle.pk_values.specs.ColumnSet.{columns}
-use Rattle.finds.proofs.WideLemmas.{wide_rows}
-use Rattle.finds.proofs.count_keys.Goals as goal
 
-pub discover-requires : goal.discover-requires
-discover-requires c = using(wide_rows)
-"""
+PROCESSORS = sorted(os.sched_getaffinity(0))
+
+
+def least(program, count):
+    """For each number of rows and columns its line of the quickest run, on so many processors."""
+    os.sched_setaffinity(0, PROCESSORS[:count])
+    runs = [[tuple(run[place : place + 4]) for place in range(0, len(run), 4)] for run in figures(program)]
+    return [min(turns, key=lambda turn: turn[3]) for turns in zip(*runs)]
+
+
+def main():
+    with tempfile.TemporaryDirectory() as folder:
+        program = built_in(folder, CRATES, FILES)
+        on_one, on_two = least(program, 1), least(program, 2)
+    print("  rows  columns  keys  one ms  two ms  share")
+    for one, two in zip(on_one, on_two):
+        rows, columns, keys, micros = one
+        if two[:3] != one[:3]:
+            raise SystemExit("two processors find other keys than one")
+        print(f"{rows:6}  {columns:7}  {keys:4}  {micros / 1000:6.1f}  {two[3] / 1000:6.1f}  {two[3] / micros:5.2f}")
+
+
+if __name__ == "__main__":
+    main()

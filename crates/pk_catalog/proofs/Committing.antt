@@ -27,14 +27,14 @@ bases_have_maps = record {
 -- ---- a table among others
 
 -- a number that no table before it has
-abbrev IsNew : ℕ → List Numbered → Type 0
+abbrev pub IsNew : ℕ → List Numbered → Type 0
 IsNew number ts = IsIn number (numbers_of ts) → ⊥
 
 none_found : (ts : List Numbered) (number : ℕ) → IsNew number ts → table_of ts number ≡ None
 none_found [] number new = refl
 none_found (x ∷ ts) number new = behind_table x ts number (λ same. new (inl (sym same))) ∙ none_found ts number (λ later. new (inr later))
 
-among : (number : ℕ) (t : Table) (front back : List Numbered) (n : ℕ) → IsNew number front
+pub among : (number : ℕ) (t : Table) (front back : List Numbered) (n : ℕ) → IsNew number front
     → table_of (front ++ record { number = number; table = t } ∷ back) n ≡ cond (number == n) (Some t) (table_of (front ++ back) n)
 among number t [] back n new =
     elim (cases_Bool (number == n)) [ inl same ↦ rw same refl | inr other ↦ rw other refl ]
@@ -49,12 +49,12 @@ among number t (x ∷ front) back n new =
           ∙ ap (λ o. cond (number == n) (Some t) o) (sym (behind_table x (front ++ back) n there))
     ]
 
-found_in_front : (front back : List Numbered) (number : ℕ) → IsIn number (numbers_of front) → IsIn number (numbers_of (front ++ back))
+pub found_in_front : (front back : List Numbered) (number : ℕ) → IsIn number (numbers_of front) → IsIn number (numbers_of (front ++ back))
 found_in_front [] back number is = absurd is
 found_in_front (x ∷ front) back number (inl same) = inl same
 found_in_front (x ∷ front) back number (inr later) = inr (found_in_front front back number later)
 
-in_numbers : (ts : List Numbered) (number : ℕ) → table_of ts number ≡ None → IsNew number ts
+pub in_numbers : (ts : List Numbered) (number : ℕ) → table_of ts number ≡ None → IsNew number ts
 in_numbers [] number none is = is
 in_numbers (x ∷ ts) number none (inl same) = let some = sym (first_table x ts) ∙ ap (table_of (x ∷ ts)) (sym same) ∙ none in cc
 in_numbers (x ∷ ts) number none (inr later) =

@@ -8,4 +8,10 @@ pub mod SchemaMaking
 pub mod OneRecord
 pub mod TableMaking
 pub mod OneBase
+pub mod Members
+pub mod BaseMaps
+pub mod NoBases
+pub mod MapBases
+pub mod FreeNumbers
+pub mod BaseEdges
 pub mod Committing

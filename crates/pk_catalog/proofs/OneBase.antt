@@ -25,17 +25,17 @@ with_id : ℕ → Placed → Bool
 with_id id p = p.id == id
 
 -- no row has an id below the least
-none_before : (least next id : ℕ) (ps : List Placed) → IdsRise least ps next → id < least → row_of ps id ≡ None
+pub none_before : (least next id : ℕ) (ps : List Placed) → IdsRise least ps next → id < least → row_of ps id ≡ None
 none_before least next id [] rise low = refl
 none_before least next id (p ∷ ps) rise low =
     let other : p.id ≡ id → ⊥ = λ same. omega (arith, rise.0, low, same) in
     rw (ne_eqb p.id id other) (none_before (p.id + 1) next id ps rise.1 (omega (arith, rise.0, low)))
 
-first_row : (p : Placed) (ps : List Placed) → row_of (p ∷ ps) p.id ≡ Some p.row
+pub first_row : (p : Placed) (ps : List Placed) → row_of (p ∷ ps) p.id ≡ Some p.row
 first_row p ps = rw (eq-eqb p.id p.id refl) refl
 
 -- behind the first row
-behind_row : (p : Placed) (ps : List Placed) (id : ℕ) → (p.id ≡ id → ⊥) → row_of (p ∷ ps) id ≡ row_of ps id
+pub behind_row : (p : Placed) (ps : List Placed) (id : ℕ) → (p.id ≡ id → ⊥) → row_of (p ∷ ps) id ≡ row_of ps id
 behind_row p ps id other = rw (ne_eqb p.id id other) refl
 
 -- rows by rising ids are known by what stands at each id
@@ -65,13 +65,13 @@ same_rows least next more (p ∷ ps) (q ∷ qs) rise climb same =
 
 -- ---- tables
 
--- the row at an id is one that can be stored
-stored_row : (ps : List Placed) (id : ℕ) (row : List Value) → All (λ (p : Placed). AreStorable p.row) ps → row_of ps id ≡ Some row → AreStorable row
-stored_row [] id row all found = absurd cc
-stored_row (p ∷ ps) id row all found =
+-- the row at an id is what all rows are
+pub row_has : (P : List Value → Type 0) (ps : List Placed) (id : ℕ) (row : List Value) → All (λ (p : Placed). P p.row) ps → row_of ps id ≡ Some row → P row
+row_has P [] id row all found = absurd cc
+row_has P (p ∷ ps) id row all found =
     elim (cases_eq p.id id) [
-      | inl here ↦ subst AreStorable (same_Some p.row row (sym (first_row p ps) ∙ ap (row_of (p ∷ ps)) here ∙ found)) (All-head (λ (r : Placed). AreStorable r.row) p ps all)
-      | inr there ↦ stored_row ps id row (All-tail (λ (r : Placed). AreStorable r.row) p ps all) (sym (behind_row p ps id there) ∙ found)
+      | inl here ↦ subst P (same_Some p.row row (sym (first_row p ps) ∙ ap (row_of (p ∷ ps)) here ∙ found)) (All-head (λ (r : Placed). P r.row) p ps all)
+      | inr there ↦ row_has P ps id row (All-tail (λ (r : Placed). P r.row) p ps all) (sym (behind_row p ps id there) ∙ found)
     ]
 
 -- rows with the same records are the same
@@ -81,7 +81,7 @@ same_row None (Some b) _ _ same = absurd cc
 same_row (Some a) None _ _ same = absurd cc
 same_row (Some a) (Some b) o_fits p_fits same = ap (λ r. Some r) (row_records_differ a b (o_fits a refl) (p_fits b refl) (same_Some (row_record a) (row_record b) same))
 
-at_id : (t : Table) (id : ℕ) → (0 ≡ id → ⊥) → record_in (Some t) id ≡ option_map row_record (row_of t.rows id)
+pub at_id : (t : Table) (id : ℕ) → (0 ≡ id → ⊥) → record_in (Some t) id ≡ option_map row_record (row_of t.rows id)
 at_id t id other = rw (ne_eqb 0 id other) refl
 
 -- tables are known by what stands at each of their ids
@@ -91,7 +91,7 @@ same_kept t u t_kept u_kept same =
     let known : known_of t ≡ known_of u = one_table_record (table_record (known_of t)) (known_of t) (known_of u) (record { spelled = refl; table = t_kept.known }) (record { spelled = bytes; table = u_kept.known }) in
     let each : (id : ℕ) → row_of t.rows id ≡ row_of u.rows id = λ id. elim (cases_eq 0 id) [
       | inl none ↦ none_before 1 t.next id t.rows t_kept.ids (omega (arith, none)) ∙ sym (none_before 1 u.next id u.rows u_kept.ids (omega (arith, none)))
-      | inr some ↦ same_row (row_of t.rows id) (row_of u.rows id) (λ row. stored_row t.rows id row t_kept.storable) (λ row. stored_row u.rows id row u_kept.storable)
+      | inr some ↦ same_row (row_of t.rows id) (row_of u.rows id) (λ row. row_has AreStorable t.rows id row t_kept.storable) (λ row. row_has AreStorable u.rows id row u_kept.storable)
           (sym (at_id t id some) ∙ same id ∙ at_id u id some)
     ] in
     let rows = same_rows 1 t.next u.next t.rows u.rows t_kept.ids u_kept.ids each in
@@ -122,7 +122,7 @@ pub behind_table : (x : Numbered) (ts : List Numbered) (number : ℕ) → (x.num
 behind_table x ts number other = rw (ne_eqb x.number number other) refl
 
 -- each table is found by some number
-numbered_member : (ts : List Numbered) (t : Table) → AreDistinct (numbers_of ts) → IsIn t (tables_of ts) → (number : ℕ) × IsIn number (numbers_of ts) × (table_of ts number ≡ Some t)
+pub numbered_member : (ts : List Numbered) (t : Table) → AreDistinct (numbers_of ts) → IsIn t (tables_of ts) → (number : ℕ) × IsIn number (numbers_of ts) × (table_of ts number ≡ Some t)
 numbered_member [] t distinct is = absurd is
 numbered_member (x ∷ ts) t distinct (inl same) = (x.number, inl refl, first_table x ts ∙ ap (λ u. Some u) (sym same))
 numbered_member (x ∷ ts) t distinct (inr later) =
@@ -149,13 +149,10 @@ found_number (x ∷ ts) t number found =
 
 -- ---- lists of tables by their names
 
-abbrev name_of : Table → List ℕ
-name_of t = t.name
-
-abbrev AreSorted : List Table → Type 0
+abbrev pub AreSorted : List Table → Type 0
 AreSorted ts = IsStrictlySortedBy (slice_cmp nat_cmp) (map (λ (t : Table). t.name) ts)
 
-not_less_itself : (x : List ℕ) → slice_cmp nat_cmp x x ≡ Less → ⊥
+pub not_less_itself : (x : List ℕ) → slice_cmp nat_cmp x x ≡ Less → ⊥
 not_less_itself x less = let back = nat_list_cmp_total.antisymm x x in turned (slice_cmp nat_cmp x x) back less
   where
     turned : (o : Ordering) → o ≡ ordering_reverse o → o ≡ Less → ⊥
@@ -164,12 +161,12 @@ not_less_itself x less = let back = nat_list_cmp_total.antisymm x x in turned (s
     turned Greater back less = absurd cc
 
 -- a table behind the first comes after it
-comes_after : (t u : Table) (us : List Table) → AllByRecursion (λ name. slice_cmp nat_cmp t.name name ≡ Less) (map (λ (v : Table). v.name) us) → IsIn u us → slice_cmp nat_cmp t.name u.name ≡ Less
+pub comes_after : (t u : Table) (us : List Table) → AllByRecursion (λ name. slice_cmp nat_cmp t.name name ≡ Less) (map (λ (v : Table). v.name) us) → IsIn u us → slice_cmp nat_cmp t.name u.name ≡ Less
 comes_after t u [] all is = absurd is
 comes_after t u (v ∷ us) all (inl same) = ap (λ (w : Table). slice_cmp nat_cmp t.name w.name) same ∙ all.0
 comes_after t u (v ∷ us) all (inr later) = comes_after t u us all.1 later
 
-abbrev AllAfter : Table → List Table → Type 0
+abbrev pub AllAfter : Table → List Table → Type 0
 AllAfter t us = AllByRecursion (λ name. slice_cmp nat_cmp t.name name ≡ Less) (map (λ (v : Table). v.name) us)
 
 -- a member of one rest is one of the other, where the heads are one
@@ -204,13 +201,13 @@ same_tables (t ∷ ts) (u ∷ us) t_sorted u_sorted there back =
 found_kept : (b : Base) (ts : List Numbered) → IsBase b → tables_of ts ≡ b.tables → (number : ℕ) (t : Table) → table_of ts number ≡ Some t → IsKept t
 found_kept b ts base same number t found = member_has IsKept t (tables_of ts) (subst (All IsKept) (sym same) base.kept) (found_member ts t number found)
 
-no_zero : (ts : List Numbered) → AreNumbers (numbers_of ts) → (o : Option Table) → table_of ts 0 ≡ o → o ≡ None
+pub no_zero : (ts : List Numbered) → AreNumbers (numbers_of ts) → (o : Option Table) → table_of ts 0 ≡ o → o ≡ None
 no_zero ts numbers None is = refl
 no_zero ts numbers (Some t) is =
     let inside = member_has (λ n. (1 ≤ n) × (n ≤ 256)) 0 (numbers_of ts) numbers.inside (found_number ts t 0 is) in
     absurd (omega (arith, inside.0))
 
-at_place : (commit : ℕ) (ts : List Numbered) (number id : ℕ) → (0 ≡ number → ⊥) → records commit ts number id ≡ record_in (table_of ts number) id
+pub at_place : (commit : ℕ) (ts : List Numbered) (number id : ℕ) → (0 ≡ number → ⊥) → records commit ts number id ≡ record_in (table_of ts number) id
 at_place commit ts number id other = rw (ne_eqb 0 number other) refl
 
 -- the tables that are found are the same

@@ -30,7 +30,7 @@ one_row_record s bytes a b a_is b_is = row_records_differ a b a_is.storable b_is
 
 -- ---- bases
 
-abbrev behind_version : List ℕ → List ℕ
+abbrev pub behind_version : List ℕ → List ℕ
 behind_version [] = []
 behind_version (b ∷ bytes) = bytes
 

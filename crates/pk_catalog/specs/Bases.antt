@@ -1,5 +1,5 @@
 -- Which map from places to bytes stands for which base. A place is a pair of numbers: that of a table, and the id of one of its rows.
-use Rattle.std.specs.Prelude.{◌≡◌, ◌⊎◌, ℕ, ◌+◌, ◌^◌, ◌≤◌, Bool, ◌&&◌, ◌==◌, if◌then◌else◌, List, [], ◌∷◌, length, map, All, find, sum_by, Option, Some, None}
+use Rattle.std.specs.Prelude.{◌≡◌, ◌⊎◌, ℕ, ◌+◌, ◌^◌, ◌≤◌, ◌<◌, Bool, ◌&&◌, ◌==◌, if◌then◌else◌, List, [], ◌∷◌, length, map, All, find, sum_by, Option, Some, None}
 use Rattle.std.specs.Option.{option_map}
 use Rattle.std.specs.List.Sorted.{IsStrictlySortedBy}
 use Rattle.std.specs.Ordering.{nat_cmp}
@@ -67,10 +67,10 @@ numbers_of ts = map (λ (t : Numbered). t.number) ts
 abbrev pub tables_of : List Numbered → List Table
 tables_of ts = map (λ (t : Numbered). t.table) ts
 
--- no number stands twice
-abbrev pub AreDistinct : List ℕ → Type 0
+-- none of them stands twice
+abbrev pub AreDistinct : {A : Type 0} → List A → Type 0
 AreDistinct [] = Unit {0}
-AreDistinct (n ∷ ns) = All (λ m. n ≡ m → ⊥) ns × AreDistinct ns
+AreDistinct (x ∷ xs) = All (λ y. x ≡ y → ⊥) xs × AreDistinct xs
 
 -- the numbers of tables are from 1 to 256, each of one table
 pub record AreNumbers (ns : List ℕ) : Type 0 where
@@ -99,6 +99,12 @@ record_in (Some t) id = if 0 == id then Some (table_record (known_of t)) else op
 -- the table with this number
 abbrev pub table_of : List Numbered → ℕ → Option Table
 table_of ts number = option_map (λ (t : Numbered). t.table) (find (λ (t : Numbered). t.number == number) ts)
+
+-- the least number from 1 on that no table has: the one that a new table gets
+pub record IsLeastFree (ts : List Numbered) (number : ℕ) : Type 0 where
+  pub first : 1 ≤ number
+  pub free : table_of ts number ≡ None
+  pub least : (n : ℕ) → 1 ≤ n → n < number → (t : Table) × (table_of ts n ≡ Some t)
 
 -- what tables have at a place
 abbrev pub table_records : List Numbered → Map

@@ -1,5 +1,5 @@
 -- What holds of records and of maps, in words that don't retrace how they are spelled.
-use Rattle.std.specs.Prelude.{◌≡◌, ℕ, List, [], ◌∷◌, ◌++◌, false, Some, None}
+use Rattle.std.specs.Prelude.{◌≡◌, ℕ, ◌<◌, List, [], ◌∷◌, ◌++◌, length, false, Some, None}
 use Rattle.pk_values.specs.declared.changes.Changes.{Changes}
 use Rattle.pk_values.specs.declared.value.Value.{Value}
 use Rattle.pk_values.specs.Records.{row_record, AreStorable}
@@ -7,7 +7,7 @@ use Rattle.pk_schema.specs.Shapes.{Shape}
 use Rattle.pk_schema.specs.Admits.{Admits}
 use Rattle.pk_catalog.specs.declared.table_record.TableRecord.{TableRecord}
 use Rattle.pk_catalog.specs.Records.{IsBaseRecord, IsTableRecord, IsRowRecord}
-use Rattle.pk_catalog.specs.Bases.{Table, Base, Numbered, Map, IsBase, AreNumbers, StandsFor, Keeps, nothing, empty_base, numbers_of, tables_of, table_of, records}
+use Rattle.pk_catalog.specs.Bases.{Table, Base, Numbered, Map, IsBase, IsLeastFree, AreNumbers, StandsFor, Keeps, nothing, empty_base, numbers_of, tables_of, table_of, records}
 use Rattle.pk_catalog.specs.Batches.{Put, IsChanged, KeepsTables, batched, put_at, is_gone, base_put, table_put, places, rows_gone, rows_put}
 
 -- ---- records
@@ -32,6 +32,14 @@ OneBase = (m : Map) (a b : Base) → StandsFor m a → StandsFor m b → a ≡ b
 pub record BasesHaveMaps : Type 0 where
   pub numbered : (ts : List Numbered) (b : Base) → IsBase b → tables_of ts ≡ b.tables → AreNumbers (numbers_of ts) → StandsFor (records b.commit ts) b
   pub fresh : StandsFor nothing empty_base
+
+-- a new table has a number among fewer than 256 tables
+pub record NewTablesHaveNumbers : Type 0 where
+  pub one : (ts : List Numbered) (a b : ℕ) → IsLeastFree ts a → IsLeastFree ts b → a ≡ b
+  pub some : (ts : List Numbered) → length ts < 256 → (number : ℕ) × IsLeastFree ts number
+  -- with it they have their numbers as before, wherever it stands among them
+  pub numbered : (front back : List Numbered) (number : ℕ) (t : Table) → length (front ++ back) < 256 → AreNumbers (numbers_of (front ++ back)) → IsLeastFree (front ++ back) number
+      → AreNumbers (numbers_of (front ++ record { number = number; table = t } ∷ back))
 
 -- ---- commits
 

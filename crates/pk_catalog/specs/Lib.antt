@@ -1,7 +1,10 @@
+pub mod Errors
 pub mod Records
 pub mod Reading
 pub mod Making
 pub mod Bases
+pub mod BaseMaps
 pub mod Batches
 pub mod Laws
 pub mod Edges
+pub mod BaseEdges

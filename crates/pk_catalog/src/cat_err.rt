@@ -13,6 +13,11 @@ pub enum CatErr {
 }
 
 impl fmt::Display for CatErr {
+    ghost use Rattle.std.specs.Prelude.{Some};
+    ghost use Rattle.pk_catalog.specs.Errors.{error_text};
+
+    ghost output = { λ e. Some (error_text e) };
+
     fn fmt<W: fmt::Write>(&self, f: &mut fmt::Formatter<W>) -> fmt::Result {
         match self {
             CatErr::Bad => f.write_str("no such record"),

@@ -4,8 +4,9 @@
 //! exactly where its bytes are in the grammar of `specs/Records.antt`; all other bytes are `Bad`, and nothing is guessed.
 //! What was written is read again, a row by each schema that admits it.
 //!
-//! `specs/Bases.antt` says which map from places to records stands for which base, and `specs/Batches.antt` what a
-//! commit does to that map. Places are pairs of numbers there, so that this crate knows nothing of how maps are kept.
+//! `specs/Bases.antt` says which map from places to records stands for which base, `specs/BaseMaps.antt` what such maps are,
+//! said of the maps alone, and `specs/Batches.antt` what a commit does to a map. Places are pairs of numbers there, so that
+//! this crate knows nothing of how maps are kept.
 #![tactic(auto)]
 
 mod base_record;
@@ -23,7 +24,8 @@ mod table_record;
 pub use base_record::{get_base, put_base};
 pub use cat_err::CatErr;
 pub use laws::{
-    a_map_stands_for_one_base, bases_have_maps, batches_are_commits, records_at_their_edges,
+    a_map_stands_for_one_base, bases_at_their_edges, bases_have_maps, batches_are_commits,
+    maps_of_bases, maps_of_no_base, new_tables_have_numbers, records_at_their_edges,
     records_tell_one, rows_have_records,
 };
 pub use row_record::{get_row, put_row};
