@@ -1,0 +1,9 @@
+mod EachLemmas
+mod FamilyLemmas
+mod FilingLemmas
+mod LeastLemmas
+mod MarkLemmas
+mod PatternLemmas
+mod RowLemmas
+mod ShownLemmas
+mod StrongLemmas
