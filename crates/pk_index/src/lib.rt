@@ -13,8 +13,8 @@
 //! equal.
 //!
 //! Contracts see an index as a finite map from ids to the values on the key's columns (`ShowsRows`) or,
-//! for a possible key, to these values or the mark that one is null (`ShowsMarks`). No call but `new`,
-//! `put` and `values` takes memory.
+//! for a possible key, to these values or the mark that one is null (`ShowsMarks`). No call but `put`
+//! and `values` takes memory.
 #![tactic(auto)]
 
 mod family;
