@@ -47,6 +47,13 @@ impl PatternIndex {
         }
     }
 
+    /// The columns of the key that are nullable.
+    pub fn nullable(&self) -> ColSet
+        ensures { result ≡ nullable_of self.now }
+    {
+        self.nullable
+    }
+
     /// Puts in the row, under an id that isn't held. After `Memory` nothing is claimed of the index.
     pub fn put(&mut self, id: u64, row: &Row) -> Result<(), Memory>
         requires wide { IsTrue (are_below (length row.now) (columns (key_of self.old))) }

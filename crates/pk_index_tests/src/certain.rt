@@ -28,6 +28,9 @@ fn told(alloc: Global, key: ColSet, nullable: ColSet, does: &[u8]) -> Result<Vec
         return Err("no key".into());
     }
     let mut index = PatternIndex::new(alloc, key, nullable);
+    if index.nullable() != nullable {
+        return Err("other nullable columns".into());
+    }
     let mut told = Vec::new(alloc);
     for word in does.split(|byte| *byte == b' ') {
         tell(&mut told, &mut index, key, nullable, word)?;
