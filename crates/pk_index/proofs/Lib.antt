@@ -3,7 +3,10 @@ mod FamilyLemmas
 mod FilingLemmas
 mod LeastLemmas
 mod MarkLemmas
+mod PackingLemmas
 mod PatternLemmas
 mod RowLemmas
+mod SetLemmas
+mod ShelfLemmas
 mod ShownLemmas
 mod StrongLemmas

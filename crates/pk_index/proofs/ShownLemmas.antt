@@ -14,8 +14,7 @@ use Rattle.std.proofs.lemmas.Map.Lookups.{exact_unsigned}
 use Rattle.pk_index.specs.declared.family.Family.{Family}
 use Rattle.pk_index.specs.Rows.{passes, IsLeast}
 use Rattle.pk_index.specs.Filing.{has, Puts, Takes}
-use Rattle.pk_index.proofs.FilingLemmas.{and_false, or_false}
-use Rattle.pk_index.proofs.FamilyLemmas.{and_true}
+use Rattle.pk_index.proofs.FilingLemmas.{and_true, and_false, or_false}
 
 is_equal : (o : Ordering) → is_eq o ≡ true → o ≡ Equal
 is_equal Less same = absurd (false≢true same)

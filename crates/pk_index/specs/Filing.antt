@@ -1,17 +1,17 @@
 -- Under which byte strings rows are filed, and what a look-up asks for.
-use Rattle.std.specs.Prelude.{◌≡◌, ℕ, Bool, true, false, not, cond, ◌&&◌, ◌||◌, ◌==◌, List, [], ◌∷◌, Option, Some, None}
+use Rattle.std.specs.Prelude.{◌≡◌, ℕ, Bool, true, false, not, cond, ◌&&◌, ◌||◌, ◌==◌, List, [], ◌∷◌, length, Option, Some, None, if◌then◌else◌, nat_lt}
 use Rattle.std.specs.List.{flat_map}
 use Rattle.std.specs.Ordering.{nat_cmp, eq_by_cmp}
-use Rattle.std.specs.Cmp.Lexicographic.{slice_cmp}
-use Rattle.std.specs.BTreeMap as tree
-use Rattle.std.specs.BTreeSet as set
-use Rattle.std.specs.BTreeSet.{BTreeSet}
 use Rattle.pk_values.specs.declared.value.Value.{Value}
 use Rattle.pk_values.specs.declared.value.Value.TheVariants.{Null}
 use Rattle.pk_values.specs.ColumnSet.{has_column}
-use Rattle.pk_values.specs.Values.{is_null, value_at}
+use Rattle.pk_values.specs.Values.{are_bytes, is_null, value_at}
 use Rattle.pk_values.specs.Records.{value_record, row_record}
 use Rattle.pk_index.specs.declared.family.Family.{Family}
+use Rattle.pk_index.specs.declared.family.Width.{Width}
+use Rattle.pk_index.specs.declared.family.Width.TheVariants.{Two, Three, Six, Long}
+use Rattle.pk_index.specs.Shelves.{holds, set_has}
+use Rattle.pk_index.specs.Packing.{two_words, three_words, six_words, two_cmp, three_cmp, six_cmp}
 
 -- what leaves a column open: a byte that begins no value
 abbrev pub open_record : List ℕ
@@ -62,14 +62,20 @@ abbrev pub mark_record : Option (List Value) → List ℕ
 mark_record None = value_record Null
 mark_record (Some vs) = row_record vs
 
--- whether the id is in a set that may not be there
-abbrev pub is_in : Option (BTreeSet ℕ) → ℕ → Bool
-is_in None id = false
-is_in (Some ids) id = set.contains nat_cmp ids id
+-- how bytes of this number are filed
+abbrev pub width_of : ℕ → Width
+width_of len = if nat_lt len 16 then Two else if nat_lt len 24 then Three else if nat_lt len 48 then Six else Long
+
+-- the family has the id under these bytes, where they are filed in this way
+abbrev pub has_in : Family → Width → List ℕ → ℕ → Bool
+has_in family Two bytes id = holds two_cmp family.two (two_words bytes) id
+has_in family Three bytes id = holds three_cmp family.three (three_words bytes) id
+has_in family Six bytes id = holds six_cmp family.six (six_words bytes) id
+has_in family Long bytes id = set_has family.long bytes id
 
 -- the family has the id under these bytes
 abbrev pub has : Family → List ℕ → ℕ → Bool
-has family bytes id = is_in (tree.get_by (λ k. slice_cmp nat_cmp bytes k.items) family.sets) id
+has family bytes id = are_bytes bytes && has_in family (width_of (length bytes)) bytes id
 
 -- the id is had under the bytes that pass, and all else stays
 abbrev pub Puts : Family → Family → (List ℕ → Bool) → ℕ → Type 0

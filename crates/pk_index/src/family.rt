@@ -1,26 +1,37 @@
-//! Sets of ids by the byte strings under which they are filed.
+//! Ids by the byte strings under which they are filed.
 
-ghost use Rattle.std.specs.Prelude.{◌≡◌, ℕ, ◌+◌, ◌<◌, ◌≤◌, false, List, None, length, OnOk, IfOk};
+ghost use Rattle.std.specs.Prelude.{◌≡◌, ℕ, ◌+◌, ◌<◌, ◌≤◌, false, List, length, IsTrue, OnOk};
 ghost use Rattle.std.specs.List.Sorted.{IsStrictlySortedBy};
-ghost use Rattle.std.specs.Ordering.{nat_cmp, eq_by_cmp};
-ghost use Rattle.std.specs.BTreeMap.{get_by};
-ghost use Rattle.std.specs.BTreeSet.{contains};
-ghost use Rattle.std.specs.Cmp.Lexicographic.{slice_cmp};
+ghost use Rattle.std.specs.Ordering.{nat_cmp};
 ghost use Rattle.std.specs.Str.{bytes_eq};
-ghost use Rattle.pk_index.specs.Rows.{IsLeast, is_listed};
-ghost use Rattle.pk_index.specs.Filing.{has, Puts, Takes};
+ghost use Rattle.pk_values.specs.Values.{are_bytes};
+ghost use Rattle.pk_index.specs.Rows.{IsLeast};
+ghost use Rattle.pk_index.specs.Filing.{width_of, has, Puts, Takes};
 
+use crate::packing::{six_words, three_words, two_words};
+use crate::sets::Sets;
+use crate::shelf::Shelf;
 use crate::steps::Steps;
 use pk_values::Memory;
 use std::alloc::Global;
-use std::collections::{BTreeMap, BTreeSet};
 use std::sync::ledger::Ledger;
 
-/// Ids by byte strings. None of these has an empty set.
+/// Ids by byte strings. Short ones are filed as numbers, which takes less memory and time.
 #[derive(Drop)]
 pub(crate) struct Family {
-    alloc: Global,
-    sets: BTreeMap<Vec<u8>, BTreeSet<u64>>,
+    two: Shelf<(u64, u64)>,
+    three: Shelf<(u64, u64, u64)>,
+    six: Shelf<(u64, u64, u64, u64, u64, u64)>,
+    long: Sets,
+}
+
+/// How many words a byte string takes as numbers; `Long` is one that is kept as it is.
+#[derive(Clone, Copy)]
+pub(crate) enum Width {
+    Two,
+    Three,
+    Six,
+    Long,
 }
 
 impl Family {
@@ -29,8 +40,10 @@ impl Family {
         ensures { (bytes : List ℕ) (id : ℕ) → has result bytes id ≡ false }
     {
         Family {
-            alloc,
-            sets: BTreeMap::new(alloc),
+            two: Shelf::new(alloc),
+            three: Shelf::new(alloc),
+            six: Shelf::new(alloc),
+            long: Sets::new(alloc),
         }
     }
 
@@ -38,36 +51,23 @@ impl Family {
     pub fn put(&mut self, bytes: &[u8], id: u64) -> Result<(), Memory>
         ensures { OnOk result (Puts self.old self.new (bytes_eq bytes.now) id) }
     {
-        match self.sets.get_mut(bytes) {
-            Some(ids) => {
-                ids.insert(id)?;
-                Ok(())
-            }
-            None => self.begin(bytes, id),
+        match width_of(bytes) {
+            Width::Two => self.two.put(two_words(bytes), id),
+            Width::Three => self.three.put(three_words(bytes), id),
+            Width::Six => self.six.put(six_words(bytes), id),
+            Width::Long => self.long.put(bytes, id),
         }
-    }
-
-    // Files the id under bytes that have none yet.
-    fn begin(&mut self, bytes: &[u8], id: u64) -> Result<(), Memory>
-        requires { get_by (λ k. slice_cmp nat_cmp bytes.now k.items) self.old.sets ≡ None }
-        ensures { OnOk result (Puts self.old self.new (bytes_eq bytes.now) id) }
-    {
-        let ids = one(self.alloc, id)?;
-        let key = Vec::from_slice(self.alloc, bytes)?;
-        self.sets.insert(key, ids)?;
-        Ok(())
     }
 
     /// Takes the id out from under these bytes.
     pub fn take(&mut self, bytes: &[u8], id: u64)
         ensures { Takes self.old self.new (bytes_eq bytes.now) id }
     {
-        let Some(ids) = self.sets.get_mut(bytes) else {
-            return;
-        };
-        ids.remove(&id);
-        if ids.is_empty() {
-            self.sets.remove(bytes);
+        match width_of(bytes) {
+            Width::Two => self.two.take(two_words(bytes), id),
+            Width::Three => self.three.take(three_words(bytes), id),
+            Width::Six => self.six.take(six_words(bytes), id),
+            Width::Long => self.long.take(bytes, id),
         }
     }
 
@@ -75,9 +75,11 @@ impl Family {
     pub fn has(&self, bytes: &[u8], id: u64) -> bool
         ensures { result ≡ has self.now bytes.now id }
     {
-        match self.sets.get(bytes) {
-            Some(ids) => ids.contains(&id),
-            None => false,
+        match width_of(bytes) {
+            Width::Two => self.two.has(two_words(bytes), id),
+            Width::Three => self.three.has(three_words(bytes), id),
+            Width::Six => self.six.has(six_words(bytes), id),
+            Width::Long => self.long.has(bytes, id),
         }
     }
 
@@ -95,42 +97,28 @@ impl Family {
         ensures most { steps.new ≤ steps.old + (2 + length outside.now) }
     {
         steps.tick();
-        match self.sets.get(bytes) {
-            Some(ids) => least_in(ids, outside, steps),
-            None => None,
+        match width_of(bytes) {
+            Width::Two => self.two.least(two_words(bytes), outside, steps),
+            Width::Three => self.three.least(three_words(bytes), outside, steps),
+            Width::Six => self.six.least(six_words(bytes), outside, steps),
+            Width::Long => self.long.least(bytes, outside, steps),
         }
     }
 }
 
-// The set of this id.
-fn one(alloc: Global, id: u64) -> Result<BTreeSet<u64>, Memory>
-    ensures { IfOk result (λ ids. (j : ℕ) → contains nat_cmp ids j ≡ eq_by_cmp nat_cmp j id) }
+// How the bytes are filed.
+fn width_of(bytes: &[u8]) -> Width
+    ensures width { result ≡ width_of (length bytes.now) }
+    ensures bytes { IsTrue (are_bytes bytes.now) }
 {
-    let mut ids = BTreeSet::new(alloc);
-    ids.insert(id)?;
-    Ok(ids)
-}
-
-// The least of the ids that isn't outside.
-fn least_in<L: Ledger>(ids: &BTreeSet<u64>, outside: &[u64], steps: &mut Steps<L>) -> Option<u64>
-    requires { IsStrictlySortedBy nat_cmp outside.now }
-    ensures least { IsLeast (contains nat_cmp ids.now) outside.now result }
-    ensures some { steps.old ≤ steps.new }
-    ensures most { steps.new ≤ steps.old + (1 + length outside.now) }
-{
-    for id in ids.iter() {
-        steps.tick();
-        if !is_outside(outside, *id) {
-            return Some(*id);
-        }
+    let len = bytes.len();
+    if len < 16 {
+        Width::Two
+    } else if len < 24 {
+        Width::Three
+    } else if len < 48 {
+        Width::Six
+    } else {
+        Width::Long
     }
-    None
-}
-
-// Whether the id is one of those outside, by a binary search.
-fn is_outside(outside: &[u64], id: u64) -> bool
-    requires { IsStrictlySortedBy nat_cmp outside.now }
-    ensures { result ≡ is_listed outside.now id }
-{
-    outside.binary_search(&id).is_ok()
 }

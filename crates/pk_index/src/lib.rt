@@ -10,7 +10,8 @@
 //! value, which tell the value and where it ends, or a byte that begins no value, which leaves the
 //! column open. A row of a certain key is filed once for each set of nullable columns that it knows and
 //! leaves open, so that a look-up that leaves open what the probe doesn't know finds all that it may
-//! equal.
+//! equal. Projections of less than 48 bytes are kept as numbers, beside the id in one ordered set, so that
+//! a search compares numbers alone; longer ones stay byte strings.
 //!
 //! Contracts see an index as a finite map from ids to the values on the key's columns (`ShowsRows`) or,
 //! for a possible key, to these values or the mark that one is null (`ShowsMarks`). No call but `put`
@@ -19,8 +20,12 @@
 
 mod family;
 mod laws;
+mod outside;
+mod packing;
 mod pattern_index;
 mod projection;
+mod sets;
+mod shelf;
 mod steps;
 mod strong_index;
 

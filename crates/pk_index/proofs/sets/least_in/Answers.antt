@@ -1,7 +1,7 @@
 use Rattle.std.proofs.Common.{rules, arith, refl, sym, ◌∙◌, [], ◌∷◌, ◌++◌}
 use Rattle.std.proofs.lemmas.List.{length-append}
 use Rattle.pk_index.proofs.LeastLemmas.{first_is_least, none_is_least, passed_most, passed_next, split_next}
-use Rattle.pk_index.proofs.family.least_in.Goals as goal
+use Rattle.pk_index.proofs.sets.least_in.Goals as goal
 
 pub loop-id-init : goal.loop-id-init
 loop-id-init g c = ([], search rules, refl, search rules)
