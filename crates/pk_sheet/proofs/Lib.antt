@@ -1,0 +1,9 @@
+pub mod PlaceOrder
+pub mod ByPlace
+pub mod Searching
+pub mod Changes
+pub mod Maps
+pub mod PartReading
+pub mod PageReading
+pub mod Lists
+pub mod Edges
