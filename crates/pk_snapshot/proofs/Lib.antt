@@ -1,0 +1,5 @@
+pub mod BegunLemmas
+pub mod RisingLemmas
+pub mod SeenLemmas
+pub mod TestLemmas
+pub mod WalkLemmas

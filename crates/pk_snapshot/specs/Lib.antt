@@ -1,0 +1,5 @@
+pub mod Begun
+pub mod Edges
+pub mod Laws
+pub mod Snapshots
+pub mod Walks
